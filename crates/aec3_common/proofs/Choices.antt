@@ -1,0 +1,36 @@
+-- Tests joined by && and ||, choices between two values, and the first refusal of a chain.
+use mathlib.Core.Path.{_≡_, refl}
+use mathlib.Core.Bool.{Bool, true, false, cond, _&&_, false≢true}
+use Prim.Native.Nat.{ℕ, suc}
+use native.Mathlib.Omega.{arith}
+use Rattle.aec3_common.specs.Refusal.{unless}
+
+pub and-left : (a b : Bool) → a && b ≡ true → a ≡ true
+and-left true b e = refl
+and-left false b e = e
+
+pub and-right : (a b : Bool) → a && b ≡ true → b ≡ true
+and-right true b e = e
+and-right false b e = absurd (false≢true e)
+
+pub and-true : (a : Bool) → a && true ≡ a
+and-true true = refl
+and-true false = refl
+
+pub and-false : (a : Bool) → a && false ≡ false
+and-false true = refl
+and-false false = refl
+
+pub and-assoc : (a b c : Bool) → (a && b) && c ≡ a && (b && c)
+and-assoc true b c = refl
+and-assoc false b c = refl
+
+-- an equation with a choice, by cases of the test
+pub cond-by : {A : Type 0} (t : Bool) (r x y : A) → (t ≡ true → r ≡ x) → (t ≡ false → r ≡ y) → r ≡ cond t x y
+cond-by true r x y a b = a refl
+cond-by false r x y a b = b refl
+
+-- a test whose failure has a number has passed where the chain says 0
+pub passed : (t : Bool) (n later : ℕ) → unless t (suc n) later ≡ 0 → t ≡ true
+passed true n later e = refl
+passed false n later e = absurd (omega arith)

@@ -1,0 +1,5 @@
+pub mod Choices
+pub mod Tables
+pub mod Every
+pub mod Floats
+pub mod Ranges

@@ -1,0 +1,74 @@
+-- Lists by their entries, and loops that store one entry a turn.
+use mathlib.Core.Path.{_≡_, refl, sym, ap, _∙_, subst}
+use mathlib.Core.List.{List, [], _∷_}
+use Prim.Native.Nat.{ℕ, zero, suc, _+_, _≤_, _<_}
+use native.Mathlib.Nat.{le-of-suc-le-suc, not-suc-le-zero, le-refl}
+use native.Mathlib.Omega.{arith}
+use borrow.Author.Count.{below-more}
+use lib.ListN.{length, getD, set, length-set}
+use lib.Seq.{ext-getD, getD-set-same, getD-set-other}
+use Rattle.aec3_common.specs.Lists.{tab}
+
+pub length-tab : {A : Type 0} (n : ℕ) (f : ℕ → A) → length (tab n f) ≡ n
+unfolding tab
+length-tab zero f = refl
+length-tab (suc n) f = ap suc (length-tab n (λ k. f (suc k)))
+
+pub getD-tab : {A : Type 0} (n : ℕ) (f : ℕ → A) (k : ℕ) (d : A) → k < n → getD (tab n f) k d ≡ f k
+unfolding tab
+getD-tab zero f k d h = absurd (not-suc-le-zero h)
+getD-tab (suc n) f zero d h = refl
+getD-tab (suc n) f (suc k) d h = getD-tab n (λ j. f (suc j)) k d (le-of-suc-le-suc h)
+
+-- a list of n entries whose k-th is f k is tab n f
+pub tab-is :
+    {A : Type 0} (n : ℕ) (d : A) (f : ℕ → A) (xs : List A)
+    → length xs ≡ n → ((k : ℕ) → k < n → getD xs k d ≡ f k) → xs ≡ tab n f
+tab-is n d f xs long at =
+    ext-getD d xs (tab n f) (long ∙ sym (length-tab n f))
+    (λ k b. let h : k < n = subst (λ (m : ℕ). k < m) long b in at k h ∙ sym (getD-tab n f k d h))
+
+-- What a loop has done at k that stores f k at each k from lo to below hi: r has n entries, those of f from lo to below
+-- k, and those of xs elsewhere.
+pub record Stored {A : Type 0} (n : ℕ) (d : A) (lo hi : ℕ) (f : ℕ → A) (xs r : List A) (k : ℕ) : Type 0 where
+  pub from : lo ≤ k
+  pub to : k ≤ hi
+  pub long : length r ≡ n
+  pub done : (j : ℕ) → j < k → lo ≤ j → getD r j d ≡ f j
+  pub under : (j : ℕ) → j < lo → getD r j d ≡ getD xs j d
+  pub ahead : (j : ℕ) → k ≤ j → getD r j d ≡ getD xs j d
+
+pub stored-none :
+    {A : Type 0} {n : ℕ} (d : A) (lo hi : ℕ) (f : ℕ → A) (xs : List A)
+    → lo ≤ hi → length xs ≡ n → Stored n d lo hi f xs xs lo
+stored-none d lo hi f xs h l =
+    record {
+      from = le-refl lo;
+      to = h;
+      long = l;
+      done = λ j b c. absurd (omega arith);
+      under = λ j b. refl;
+      ahead = λ j b. refl;
+    }
+
+pub stored-more :
+    {A : Type 0} {n : ℕ} {d : A} {lo hi : ℕ} {f : ℕ → A} {xs r : List A} {k : ℕ} (v : A)
+    → Stored n d lo hi f xs r k → k < hi → hi ≤ n → v ≡ f k → Stored n d lo hi f xs (set r k v) (k + 1)
+stored-more {d = d} {lo = lo} {f = f} {xs = xs} {r = r} {k = k} v s h b e =
+    record {
+      from = omega arith;
+      to = omega arith;
+      long = length-set r k v ∙ s .long;
+      done =
+          below-more (λ j. lo ≤ j → getD (set r k v) j d ≡ f j) k
+          (λ j n m. getD-set-other r k j v d (λ q. omega arith) ∙ s .done j n m)
+          (λ m. getD-set-same r k v d (omega arith) ∙ e);
+      under = λ j n. getD-set-other r k j v d (λ q. omega arith) ∙ s .under j n;
+      ahead = λ j n. getD-set-other r k j v d (λ q. omega arith) ∙ s .ahead j (omega arith);
+    }
+
+-- the loop over all n has ended
+pub stored-all :
+    {A : Type 0} {n : ℕ} {d : A} {f : ℕ → A} {xs r : List A} {k : ℕ}
+    → Stored n d 0 n f xs r k → n ≤ k → r ≡ tab n f
+stored-all {n = n} {d = d} {f = f} {r = r} s h = tab-is n d f r (s .long) (λ j b. s .done j (omega arith) (omega arith))

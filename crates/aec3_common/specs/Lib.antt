@@ -1,0 +1,5 @@
+pub mod Lists
+pub mod Refusal
+pub mod Binary32
+pub mod Log2
+pub mod Settings

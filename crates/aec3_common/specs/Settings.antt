@@ -1,0 +1,65 @@
+-- The settings of an ERLE estimator, and what turns them away.
+use mathlib.Core.Bool.{Bool, _&&_, _||_}
+use Prim.Native.Nat.{ℕ, _+_, _/_}
+use lib.Dec.{leb}
+use lib.Ieee.{Float, binary32, ofBits, le}
+use Rattle.aec3_common.specs.declared.settings.ErleSettings.{ErleSettings}
+use Rattle.aec3_common.specs.Binary32.{one32}
+use Rattle.aec3_common.specs.Refusal.{unless, accepted, badLimits, badChannelCount, badSections}
+
+-- the limits of the domain
+abbrev pub maxCaptureChannels : ℕ
+maxCaptureChannels = 4
+
+abbrev pub maxRenderChannels : ℕ
+maxRenderChannels = 2
+
+abbrev pub maxSections : ℕ
+maxSections = 8
+
+abbrev pub maxFilterLengthBlocks : ℕ
+maxFilterLengthBlocks = 16
+
+abbrev pub maxHeadroomSamples : ℕ
+maxHeadroomSamples = 1024
+
+-- 100,000, above which no ERLE goes
+abbrev pub greatestErle : Float
+greatestErle = ofBits binary32 0x47c3_5000
+
+-- a whole number from lo to hi
+abbrev pub fromTo : ℕ → ℕ → ℕ → Bool
+fromTo lo hi n = leb lo n && leb n hi
+
+-- headroom blocks: headroom samples divided by 64, rounded down
+abbrev pub headroomBlocks : ℕ → ℕ
+headroomBlocks samples = samples / 64
+
+-- number 1: 1 ≤ min ≤ max_l, max_h ≤ 100,000
+abbrev pub limitsOk : Float → Float → Float → Bool
+limitsOk min maxL maxH = le one32 min && le min maxL && le min maxH && le maxL greatestErle && le maxH greatestErle
+
+-- number 2, of capture channels and of render channels
+abbrev pub captureChannelsOk : ℕ → Bool
+captureChannelsOk n = fromTo 1 maxCaptureChannels n
+
+abbrev pub renderChannelsOk : ℕ → Bool
+renderChannelsOk n = fromTo 1 maxRenderChannels n
+
+-- sections, filter length and headroom in their ranges
+abbrev pub rangesOk : ℕ → ℕ → ℕ → Bool
+rangesOk sections length samples =
+    fromTo 1 maxSections sections && fromTo 1 maxFilterLengthBlocks length && leb samples maxHeadroomSamples
+
+-- number 3: the ranges, and one section or no more sections than the filter length less headroom blocks
+unfoldable pub sectionsOk : ℕ → ℕ → ℕ → Bool
+sectionsOk sections length samples =
+    rangesOk sections length samples && (leb sections 1 || leb (sections + headroomBlocks samples) length)
+
+-- the first of 1, 2 and 3 that the settings break
+unfoldable pub settingsRefusal : ErleSettings → ℕ
+settingsRefusal s =
+    unless (limitsOk (s .min) (s .«max_l») (s .«max_h»)) badLimits
+    (unless (captureChannelsOk (s .«num_capture_channels»)) badChannelCount
+    (unless (sectionsOk (s .«num_sections») (s .«filter_length_blocks») (s .«delay_headroom_samples»)) badSections
+    accepted))

@@ -1,0 +1,98 @@
+// The settings of an ERLE estimator, and what turns them away.
+use crate::refusal::{ACCEPTED, BAD_CHANNEL_COUNT, BAD_LIMITS, BAD_SECTIONS};
+ghost use mathlib.Core.Path.{_≡_};
+ghost use Rattle.aec3_common.specs.Settings.{fromTo, headroomBlocks, limitsOk, captureChannelsOk, renderChannelsOk, rangesOk, sectionsOk, settingsRefusal};
+
+pub const MAX_CAPTURE_CHANNELS: usize = 4;
+pub const MAX_RENDER_CHANNELS: usize = 2;
+pub const MAX_SECTIONS: usize = 8;
+pub const MAX_FILTER_LENGTH_BLOCKS: usize = 16;
+pub const MAX_HEADROOM_SAMPLES: usize = 1024;
+
+pub struct ErleSettings {
+    pub min: f32,
+    pub max_l: f32,
+    pub max_h: f32,
+    pub onset_detection: bool,
+    pub num_capture_channels: usize,
+    pub num_sections: usize,
+    pub filter_length_blocks: usize,
+    pub delay_headroom_samples: usize,
+    pub clamp_quality_estimate_to_zero: bool,
+    pub clamp_quality_estimate_to_one: bool,
+}
+
+// Whether n lies in lo to hi.
+fn from_to(lo: usize, hi: usize, n: usize) -> bool
+    ensures { λ r. ⌜ r ≡ fromTo lo hi n ⌝ }
+{
+    (lo <= n) & (n <= hi)
+}
+
+// Headroom samples as whole blocks.
+pub fn headroom_blocks(samples: usize) -> usize
+    ensures { λ r. ⌜ r ≡ headroomBlocks samples ⌝ }
+{
+    samples / 64
+}
+
+// Number 1: 1 <= min <= max_l, max_h <= 100,000; a NaN breaks it.
+pub fn limits_ok(min: f32, max_l: f32, max_h: f32) -> bool
+    ensures { λ r. ⌜ r ≡ limitsOk min «max_l» «max_h» ⌝ }
+{
+    (1.0 <= min) & (min <= max_l) & (min <= max_h) & (max_l <= 100_000.0) & (max_h <= 100_000.0)
+}
+
+// Number 2, of capture channels.
+pub fn capture_channels_ok(n: usize) -> bool
+    ensures { λ r. ⌜ r ≡ captureChannelsOk n ⌝ }
+{
+    from_to(1, MAX_CAPTURE_CHANNELS, n)
+}
+
+// Number 2, of render channels.
+pub fn render_channels_ok(n: usize) -> bool
+    ensures { λ r. ⌜ r ≡ renderChannelsOk n ⌝ }
+{
+    from_to(1, MAX_RENDER_CHANNELS, n)
+}
+
+fn ranges_ok(sections: usize, length: usize, samples: usize) -> bool
+    ensures { λ r. ⌜ r ≡ rangesOk sections length samples ⌝ }
+{
+    from_to(1, MAX_SECTIONS, sections)
+        & from_to(1, MAX_FILTER_LENGTH_BLOCKS, length)
+        & (samples <= MAX_HEADROOM_SAMPLES)
+}
+
+// Number 3. The sum is made only where it cannot wrap.
+pub fn sections_ok(sections: usize, length: usize, samples: usize) -> bool
+    ensures { λ r. ⌜ r ≡ sectionsOk sections length samples ⌝ }
+{
+    if ranges_ok(sections, length, samples) {
+        (sections <= 1) | (sections + headroom_blocks(samples) <= length)
+    } else {
+        false
+    }
+}
+
+impl ErleSettings {
+    // The first of 1, 2 and 3 that the settings break, or 0.
+    pub fn refusal(self) -> u32
+        ensures { λ r. ⌜ r ≡ settingsRefusal self ⌝ }
+    {
+        if !limits_ok(self.min, self.max_l, self.max_h) {
+            BAD_LIMITS
+        } else if !capture_channels_ok(self.num_capture_channels) {
+            BAD_CHANNEL_COUNT
+        } else if !sections_ok(
+            self.num_sections,
+            self.filter_length_blocks,
+            self.delay_headroom_samples,
+        ) {
+            BAD_SECTIONS
+        } else {
+            ACCEPTED
+        }
+    }
+}

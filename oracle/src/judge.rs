@@ -1,0 +1,64 @@
+//! The calls that document 01 turns away, by its numbers and in its order. The
+//! published Rust asserts or answers anything there, so it is not asked.
+
+use std::fmt;
+use std::ops::RangeInclusive;
+
+pub const RING_SLOTS: RangeInclusive<u32> = 1..=32;
+pub const SECTIONS: RangeInclusive<u32> = 1..=8;
+pub const FILTER_LENGTH_BLOCKS: RangeInclusive<u32> = 1..=16;
+pub const HEADROOM_SAMPLES: RangeInclusive<u32> = 0..=1_024;
+
+/// The samples of one block.
+pub const BLOCK_SAMPLES: u32 = 64;
+
+/// The number under which a call is turned away.
+#[derive(Debug, Clone, Copy, PartialEq, Eq)]
+pub struct Refusal(pub u32);
+
+impl fmt::Display for Refusal {
+    fn fmt(&self, f: &mut fmt::Formatter<'_>) -> fmt::Result {
+        write!(f, "refused {}", self.0)
+    }
+}
+
+pub type Judged = Result<(), Refusal>;
+
+fn refuse_if(fault: bool, number: u32) -> Judged {
+    if fault {
+        Err(Refusal(number))
+    } else {
+        Ok(())
+    }
+}
+
+/// 7: log2 of NaN, zero or less.
+pub fn log2(x: f32) -> Judged {
+    refuse_if(x.is_nan() || x <= 0.0, 7)
+}
+
+/// 4: ring slots out of range. 9: a ring place not below the slots.
+pub fn ring_place(slots: u32, place: u32) -> Judged {
+    refuse_if(!RING_SLOTS.contains(&slots), 4)?;
+    refuse_if(place >= slots, 9)
+}
+
+/// As for a place, and then 8: an offset larger in size than the ring.
+pub fn ring_offset(slots: u32, place: u32, offset: i32) -> Judged {
+    ring_place(slots, place)?;
+    refuse_if(offset.unsigned_abs() > slots, 8)
+}
+
+/// 3: sections, filter length or headroom outside its range; or two or more
+/// sections, and more than the filter length less headroom blocks.
+pub fn sections(sections: u32, length_blocks: u32, headroom_samples: u32) -> Judged {
+    let in_range = SECTIONS.contains(&sections)
+        && FILTER_LENGTH_BLOCKS.contains(&length_blocks)
+        && HEADROOM_SAMPLES.contains(&headroom_samples);
+    refuse_if(!in_range, 3)?;
+    let headroom_blocks = headroom_samples / BLOCK_SAMPLES;
+    refuse_if(
+        sections >= 2 && sections + headroom_blocks > length_blocks,
+        3,
+    )
+}

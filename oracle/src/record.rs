@@ -1,0 +1,71 @@
+//! Records of a script: their framing, and the fields of their bodies.
+
+/// The greatest length of a record that is read; no good script has a longer one.
+pub const MAX_LENGTH: u32 = 131_072;
+
+/// A record that cannot be read: the run prints `bad` and ends.
+#[derive(Debug)]
+pub struct Malformed;
+
+pub struct Record<'a> {
+    pub kind: u16,
+    pub body: &'a [u8],
+}
+
+/// Takes the first record off a script.
+pub fn take_record<'a>(script: &mut &'a [u8]) -> Result<Record<'a>, Malformed> {
+    let length = u32::from_le_bytes(take_array(script)?);
+    if !(2..=MAX_LENGTH).contains(&length) {
+        return Err(Malformed);
+    }
+    let mut content = take(script, length as usize)?;
+    let kind = u16::from_le_bytes(take_array(&mut content)?);
+    Ok(Record {
+        kind,
+        body: content,
+    })
+}
+
+/// The fields of a body, read from its front.
+pub struct Fields<'a> {
+    rest: &'a [u8],
+}
+
+impl<'a> Fields<'a> {
+    pub fn of(record: &Record<'a>) -> Self {
+        Self { rest: record.body }
+    }
+
+    pub fn u32(&mut self) -> Result<u32, Malformed> {
+        Ok(u32::from_le_bytes(take_array(&mut self.rest)?))
+    }
+
+    pub fn i32(&mut self) -> Result<i32, Malformed> {
+        Ok(i32::from_le_bytes(take_array(&mut self.rest)?))
+    }
+
+    pub fn f32(&mut self) -> Result<f32, Malformed> {
+        Ok(f32::from_bits(self.u32()?))
+    }
+
+    /// Finds the body at its end: it is not longer than its fields ask.
+    pub fn end(self) -> Result<(), Malformed> {
+        if self.rest.is_empty() {
+            Ok(())
+        } else {
+            Err(Malformed)
+        }
+    }
+}
+
+fn take<'a>(bytes: &mut &'a [u8], count: usize) -> Result<&'a [u8], Malformed> {
+    let (front, rest) = bytes.split_at_checked(count).ok_or(Malformed)?;
+    *bytes = rest;
+    Ok(front)
+}
+
+fn take_array<const N: usize>(bytes: &mut &[u8]) -> Result<[u8; N], Malformed> {
+    let (front, rest) = bytes.split_first_chunk().ok_or(Malformed)?;
+    *bytes = rest;
+    Ok(*front)
+}

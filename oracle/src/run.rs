@@ -1,0 +1,46 @@
+//! Runs a script through the published Rust.
+
+use crate::kinds::Session;
+use crate::lines::Lines;
+use crate::record::take_record;
+
+/// A run over a script, record by record.
+pub struct Run<'a> {
+    rest: &'a [u8],
+    session: Session,
+}
+
+impl<'a> Run<'a> {
+    pub fn new(script: &'a [u8]) -> Self {
+        Self {
+            rest: script,
+            session: Session::new(),
+        }
+    }
+
+    /// Runs the next record and gives its bytes; none at the script's end. A
+    /// malformed record takes all that is left, and the run ends with it.
+    pub fn step(&mut self, lines: &mut Lines) -> Option<&'a [u8]> {
+        let here = self.rest;
+        if here.is_empty() {
+            return None;
+        }
+        let record = take_record(&mut self.rest);
+        if record.and_then(|r| self.session.answer(&r, lines)).is_err() {
+            lines.push(format_args!("bad"));
+            self.rest = &[];
+        }
+        Some(&here[..here.len() - self.rest.len()])
+    }
+}
+
+/// The lines of a whole script, and how many records gave them.
+pub fn run(script: &[u8]) -> (Lines, usize) {
+    let mut lines = Lines::default();
+    let mut run = Run::new(script);
+    let mut records = 0;
+    while run.step(&mut lines).is_some() {
+        records += 1;
+    }
+    (lines, records)
+}

@@ -1,0 +1,127 @@
+//! Values that document 01 and readings of the source give, asked of the
+//! published Rust itself.
+
+use crate::audio_processing::aec3::signal_dependent_erle_estimator::{
+    peek_section_boundaries, peek_section_sizes, peek_subband_map, peek_subband_maxima,
+};
+use crate::judge;
+use crate::run::run;
+use crate::scripts::Script;
+
+/// The lines of a script that one closure fills.
+fn lines(fill: impl Fn(&mut Script)) -> String {
+    let mut script = Script::default();
+    fill(&mut script);
+    String::from_utf8(run(&script.bytes).0.as_bytes().to_vec()).unwrap()
+}
+
+#[test]
+fn log2_values() {
+    for (pattern, answer) in [
+        (0x3F80_0000, "3D6AB800"),
+        (0x4080_0000, "4003AAE0"),
+        (0x7F80_0000, "43000EAC"),
+        (0x0000_0001, "C2FDE2A9"),
+        (0x0000_0000, "refused 7"),
+        (0x8000_0000, "refused 7"),
+        (0x7FC0_0000, "refused 7"),
+        (0xFFC0_0000, "refused 7"),
+    ] {
+        assert_eq!(lines(|s| s.log2(pattern)), format!("log2 {answer}\n"));
+    }
+}
+
+#[test]
+fn patterns_round_as_whole_numbers() {
+    let log2 = |pattern: u32| lines(|s| s.log2(pattern));
+    assert_eq!(log2(16_777_217), log2(16_777_216));
+    assert_eq!(16_777_217_u32 as f32, 16_777_216.0);
+    assert_eq!(16_777_219_u32 as f32, 16_777_220.0);
+}
+
+#[test]
+fn ring_of_five() {
+    for (place, offset, answer) in [
+        (3, -5, "next 4 offset 3"),
+        (0, -1, "next 1 offset 4"),
+        (4, 5, "next 0 offset 4"),
+        (3, 6, "next 4 offset refused 8"),
+        (0, i32::MIN, "next 1 offset refused 8"),
+        (5, 6, "next refused 9 offset refused 9"),
+    ] {
+        assert_eq!(
+            lines(|s| s.ring(5, place, offset)),
+            format!("ring {answer}\n")
+        );
+    }
+}
+
+#[test]
+fn section_boundaries() {
+    for (sections, length, headroom, answer) in [
+        (3, 13, 0, "0 2 6 13"),
+        (3, 2, 0, "refused 3"),
+        (3, 5, 0, "0 1 2 5"),
+        (4, 16, 0, "0 2 6 11 16"),
+        (3, 13, 128, "2 4 8 13"),
+        (1, 13, 128, "0 13"),
+        (1, 1, 1_024, "0 1"),
+    ] {
+        let line = lines(|s| s.sections(sections, length, headroom));
+        assert_eq!(line, format!("sections {answer}\n"));
+    }
+}
+
+#[test]
+fn boundaries_are_running_sums_of_the_sizes() {
+    for (sections, length, blocks) in accepted_sections() {
+        let mut sums = vec![blocks];
+        for size in peek_section_sizes(blocks, length, sections) {
+            sums.push(sums[sums.len() - 1] + size);
+        }
+        assert_eq!(peek_section_boundaries(blocks, length, sections), sums);
+    }
+}
+
+/// Every accepted choice of two or more sections, filter length and headroom
+/// blocks.
+fn accepted_sections() -> Vec<(usize, usize, usize)> {
+    let mut accepted = Vec::new();
+    for sections in 2..=*judge::SECTIONS.end() {
+        for length in judge::FILTER_LENGTH_BLOCKS {
+            for blocks in 0..=judge::HEADROOM_SAMPLES.end() / judge::BLOCK_SAMPLES {
+                if judge::sections(sections, length, blocks * judge::BLOCK_SAMPLES).is_ok() {
+                    accepted.push((sections as usize, length as usize, blocks as usize));
+                }
+            }
+        }
+    }
+    accepted
+}
+
+#[test]
+fn bands_of_the_subbands() {
+    let map = peek_subband_map();
+    for (subband, bands) in [0..=7, 8..=15, 16..=23, 24..=31, 32..=47, 48..=64]
+        .into_iter()
+        .enumerate()
+    {
+        bands.for_each(|band| assert_eq!(map[band], subband));
+    }
+    assert_eq!(
+        peek_subband_maxima(4.0, 1.5),
+        [4.0, 4.0, 4.0, 4.0, 1.5, 1.5]
+    );
+}
+
+#[test]
+fn malformed_records_end_the_run() {
+    assert_eq!(lines(|_| {}), "");
+    assert_eq!(lines(|s| s.bytes.push(6)), "bad\n");
+    let cut = lines(|s| {
+        s.ring(5, 3, -5);
+        s.log2(0x3F80_0000);
+        s.bytes.pop();
+    });
+    assert_eq!(cut, "ring next 4 offset 3\nbad\n");
+}
