@@ -4,7 +4,7 @@ use crate::lines::Lines;
 use crate::run::{run, Run};
 use crate::scripts::{named, Script, NAMES};
 use std::io::{self, Write};
-use std::process::{Command, Stdio};
+use std::process::{Command, Output, Stdio};
 use std::thread;
 
 /// How many bytes of a record a difference shows.
@@ -50,36 +50,34 @@ fn compare_all(name: &str, scripts: &[Script], replay: &str) -> Result<String, S
     })
 }
 
-/// Gives the number of records, or the first difference.
+/// Gives the number of records, or the first difference. A program that ends
+/// with another status than 0 is not the same, whatever it printed.
 fn compare_one(script: &[u8], replay: &str) -> Result<usize, String> {
     let (lines, records) = run(script);
-    let printed =
-        replayed(replay, script).map_err(|error| format!("{replay} does not run: {error}"))?;
-    if lines.as_bytes() == printed {
-        Ok(records)
+    let replayed =
+        replay_script(replay, script).map_err(|error| format!("{replay} does not run: {error}"))?;
+    if lines.as_bytes() != replayed.stdout {
+        Err(first_difference(script, lines.as_bytes(), &replayed.stdout))
+    } else if !replayed.status.success() {
+        Err(format!("same lines, but {replay}: {}", replayed.status))
     } else {
-        Err(first_difference(script, lines.as_bytes(), &printed))
+        Ok(records)
     }
 }
 
-/// What the replay program prints for a script. Its input is written from a
-/// thread of its own, as it may print before it has read everything, or end
-/// without reading the rest; a failed write therefore counts for nothing.
-fn replayed(replay: &str, script: &[u8]) -> io::Result<Vec<u8>> {
+/// Runs the replay program on a script. Its input is written from a thread of
+/// its own, as it may print before it has read everything, or end without
+/// reading the rest; a failed write therefore counts for nothing.
+fn replay_script(replay: &str, script: &[u8]) -> io::Result<Output> {
     let mut child = Command::new(replay)
         .stdin(Stdio::piped())
         .stdout(Stdio::piped())
         .spawn()?;
     let mut input = child.stdin.take().expect("standard input is piped");
-    let output = thread::scope(|scope| {
+    thread::scope(|scope| {
         scope.spawn(move || input.write_all(script).ok());
         child.wait_with_output()
-    })?;
-    if output.status.success() {
-        Ok(output.stdout)
-    } else {
-        Err(io::Error::other(output.status.to_string()))
-    }
+    })
 }
 
 /// Words for the first line that differs.

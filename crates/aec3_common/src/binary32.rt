@@ -6,6 +6,7 @@ ghost use Rattle.aec3_common.specs.Lists.{every};
 
 // 2^100, the greatest spectrum or response value, and 2^110, the greatest held sum.
 pub const GREATEST_VALUE: f32 = 1267650600228229401496703205376.0;
+
 pub const GREATEST_SUM: f32 = 1298074214633706907132624082305024.0;
 
 // x within lo and hi, as Rust's f32::clamp: a NaN stays.

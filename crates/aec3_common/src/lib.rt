@@ -15,6 +15,7 @@ pub use settings::ErleSettings;
 
 // Spectra have 65 bands, 0 to 64.
 pub const FFT_LENGTH_BY_2: usize = 64;
+
 pub const FFT_LENGTH_BY_2_PLUS_1: usize = 65;
 
 // Samples in a block.

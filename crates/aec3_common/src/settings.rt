@@ -1,12 +1,19 @@
 // The settings of an ERLE estimator, and what turns them away.
-use crate::refusal::{ACCEPTED, BAD_CHANNEL_COUNT, BAD_LIMITS, BAD_SECTIONS};
+use crate::refusal::ACCEPTED;
+use crate::refusal::BAD_CHANNEL_COUNT;
+use crate::refusal::BAD_LIMITS;
+use crate::refusal::BAD_SECTIONS;
 ghost use mathlib.Core.Path.{_≡_};
 ghost use Rattle.aec3_common.specs.Settings.{fromTo, headroomBlocks, limitsOk, captureChannelsOk, renderChannelsOk, rangesOk, sectionsOk, settingsRefusal};
 
 pub const MAX_CAPTURE_CHANNELS: usize = 4;
+
 pub const MAX_RENDER_CHANNELS: usize = 2;
+
 pub const MAX_SECTIONS: usize = 8;
+
 pub const MAX_FILTER_LENGTH_BLOCKS: usize = 16;
+
 pub const MAX_HEADROOM_SAMPLES: usize = 1024;
 
 pub struct ErleSettings {

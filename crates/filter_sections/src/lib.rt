@@ -1,6 +1,8 @@
 // The sections of the adaptive filter, the subbands, and the bands' maxima.
-use aec3_common::refusal::{ACCEPTED, BAD_SECTIONS};
-use aec3_common::settings::{headroom_blocks, sections_ok};
+use aec3_common::refusal::ACCEPTED;
+use aec3_common::refusal::BAD_SECTIONS;
+use aec3_common::settings::headroom_blocks;
+use aec3_common::settings::sections_ok;
 
 // Boundaries of up to eight sections, and the number under which the settings are turned away, or 0.
 pub struct Sections {

@@ -1,8 +1,13 @@
 // Places in the ring of spectra.
-use aec3_common::refusal::{ACCEPTED, BAD_OFFSET, BAD_PLACE, BAD_RING};
+use aec3_common::refusal::ACCEPTED;
+use aec3_common::refusal::BAD_OFFSET;
+use aec3_common::refusal::BAD_PLACE;
+use aec3_common::refusal::BAD_RING;
 ghost use mathlib.Core.Path.{_≡_};
-ghost use Prim.Native.Nat.{_<_};
-ghost use Rattle.spectrum_buffer.specs.Ring.{nextPlace, offsetPlace, nextRefusal, offsetRefusal, nextAnswer, offsetAnswer};
+ghost use Prim.Native.Nat.{_<_, _^_};
+ghost use lib.IntN.{pos, natAbs, _+ℤ_};
+ghost use lib.Signed.{remZ};
+ghost use Rattle.spectrum_buffer.specs.Ring.{slotsOk, nextPlace, nonNegative, offsetPlace, nextRefusal, offsetRefusal, nextAnswer, offsetAnswer};
 
 pub const MAX_SLOTS: usize = 32;
 
@@ -35,15 +40,20 @@ pub fn offset_index(size: usize, index: usize, offset: isize) -> Place
     }
 }
 
+// Number 4, of the slots alone.
+pub fn slots_ok(size: usize) -> bool
+    ensures { λ r. ⌜ r ≡ slotsOk size ⌝ }
+{
+    (1 <= size) & (size <= MAX_SLOTS)
+}
+
 fn next_refusal(size: usize, index: usize) -> u32
     ensures { λ r. ⌜ r ≡ nextRefusal size index ⌝ }
 {
-    if !((1 <= size) & (size <= MAX_SLOTS)) {
-        BAD_RING
-    } else if index < size {
-        ACCEPTED
+    if slots_ok(size) {
+        if index < size { ACCEPTED } else { BAD_PLACE }
     } else {
-        BAD_PLACE
+        BAD_RING
     }
 }
 
@@ -52,8 +62,7 @@ fn offset_refusal(size: usize, index: usize, offset: isize) -> u32
 {
     let refused = next_refusal(size, index);
     if refused == ACCEPTED {
-        let most = size as isize;
-        if (-most <= offset) & (offset <= most) {
+        if unsigned_abs(offset) <= size {
             ACCEPTED
         } else {
             BAD_OFFSET
@@ -63,7 +72,18 @@ fn offset_refusal(size: usize, index: usize, offset: isize) -> u32
     }
 }
 
-// The place after index in a ring that holds it.
+// The size of x. The least integer has no negative of its own, so this takes x from -1 and adds the one back.
+fn unsigned_abs(x: isize) -> usize
+    ensures { λ r. ⌜ r ≡ natAbs x ⌝ }
+{
+    if x < 0 {
+        (-1 - x) as usize + 1
+    } else {
+        x as usize
+    }
+}
+
+// The place after index, in a ring that has index.
 pub fn next_place(size: usize, index: usize) -> usize
     requires { ⌜ index < size ⌝ }
     ensures { λ r. ⌜ r ≡ nextPlace size index ⌝ }
@@ -71,12 +91,37 @@ pub fn next_place(size: usize, index: usize) -> usize
     if index + 1 < size { index + 1 } else { 0 }
 }
 
+// The place at an offset from index. The bounds are those within which no sum here wraps.
 pub fn offset_place(size: usize, index: usize, offset: isize) -> usize
+    requires { ⌜ (index < size) × (size < 2 ^ 62) ⌝ }
+    requires { ⌜ natAbs offset < 2 ^ 62 ⌝ }
+    ensures { λ r. ⌜ r ≡ offsetPlace size index offset ⌝ }
 {
-    let value = (index as isize + offset) % (size as isize);
-    if value < 0 {
-        (value + size as isize) as usize
+    non_negative(remainder(sum(index, offset), size), size)
+}
+
+fn sum(index: usize, offset: isize) -> isize
+    requires { ⌜ (index < 2 ^ 62) × (natAbs offset < 2 ^ 62) ⌝ }
+    ensures { λ r. ⌜ r ≡ pos index +ℤ offset ⌝ }
+{
+    index as isize + offset
+}
+
+// The remainder has the sign of x.
+fn remainder(x: isize, size: usize) -> isize
+    requires { ⌜ (0 < size) × (size < 2 ^ 62) ⌝ }
+    ensures { λ r. ⌜ r ≡ remZ x (pos size) ⌝ }
+{
+    x % (size as isize)
+}
+
+fn non_negative(x: isize, size: usize) -> usize
+    requires { ⌜ (natAbs x < size) × (size < 2 ^ 62) ⌝ }
+    ensures { λ r. ⌜ r ≡ natAbs (nonNegative size x) ⌝ }
+{
+    if x < 0 {
+        (x + size as isize) as usize
     } else {
-        value as usize
+        x as usize
     }
 }

@@ -13,12 +13,13 @@ add-result c =
     let ok = sym (c .before .before .ranges-ok .ensures) ∙ c .before .if1 .taken in
     record {
       fits =
-          omega
-          (arith,
-          few-sections (a .sections) (a .length) (a .samples) ok,
-          short-headroom (a .sections) (a .length) (a .samples) ok,
-          div-le-self (a .samples) 64,
-          c .headroom-blocks .ensures)
+          omega (
+            arith,
+            few-sections (a .sections) (a .length) (a .samples) ok,
+            short-headroom (a .sections) (a .length) (a .samples) ok,
+            div-le-self (a .samples) 64,
+            c .headroom-blocks .ensures,
+          );
     }
 
 returns : tie.Need-returns

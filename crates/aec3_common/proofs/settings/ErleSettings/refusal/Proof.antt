@@ -12,25 +12,28 @@ returns c = simp (sym (c .before .limits-ok .ensures) ∙ not-true _ (c .if1 .ta
 returns-2 : tie.Need-returns-2
 unfolding settingsRefusal
 returns-2 c =
-    simp
-    (sym (c .before .before .before .limits-ok .ensures) ∙ not-false _ (c .before .before .if1 .left),
-    sym (c .before .capture-channels-ok .ensures) ∙ not-true _ (c .if2 .taken))
+    simp (
+      sym (c .before .before .before .limits-ok .ensures) ∙ not-false _ (c .before .before .if1 .left),
+      sym (c .before .capture-channels-ok .ensures) ∙ not-true _ (c .if2 .taken),
+    )
 
 returns-3 : tie.Need-returns-3
 unfolding settingsRefusal
 returns-3 c =
-    simp
-    (sym (c .before .before .before .before .before .limits-ok .ensures) ∙ not-false _ (c .before .before .before .before .if1 .left),
-    sym (c .before .before .before .capture-channels-ok .ensures) ∙ not-false _ (c .before .before .if2 .left),
-    sym (c .before .sections-ok .ensures) ∙ not-true _ (c .if3 .taken))
+    simp (
+      sym (c .before .before .before .before .before .limits-ok .ensures) ∙ not-false _ (c .before .before .before .before .if1 .left),
+      sym (c .before .before .before .capture-channels-ok .ensures) ∙ not-false _ (c .before .before .if2 .left),
+      sym (c .before .sections-ok .ensures) ∙ not-true _ (c .if3 .taken),
+    )
 
 returns-4 : tie.Need-returns-4
 unfolding settingsRefusal
 returns-4 c =
-    simp
-    (sym (c .before .before .before .before .before .limits-ok .ensures) ∙ not-false _ (c .before .before .before .before .if1 .left),
-    sym (c .before .before .before .capture-channels-ok .ensures) ∙ not-false _ (c .before .before .if2 .left),
-    sym (c .before .sections-ok .ensures) ∙ not-false _ (c .if3 .left))
+    simp (
+      sym (c .before .before .before .before .before .limits-ok .ensures) ∙ not-false _ (c .before .before .before .before .if1 .left),
+      sym (c .before .before .before .capture-channels-ok .ensures) ∙ not-false _ (c .before .before .if2 .left),
+      sym (c .before .sections-ok .ensures) ∙ not-false _ (c .if3 .left),
+    )
 
 pub refusal-spec : {M : Type 1} → statement M
 refusal-spec =

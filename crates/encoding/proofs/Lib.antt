@@ -1,0 +1,4 @@
+pub mod Past
+pub mod Floats
+pub mod Digits
+pub mod Writing

@@ -1,0 +1,44 @@
+use mathlib.Core.Path.{refl, sym, ap, _∙_}
+use borrow.Author.Needs.{needs}
+use Rattle.encoding.specs.Text.{decimalDigits, decimal}
+use Rattle.encoding.proofs.Digits.{Spelt, spelt-more, spelt-all, beforeLast, decimal-last, decimal-short, decimal-none}
+use Rattle.encoding.proofs.text.decimal_digits.Statement.{statement}
+use Rattle.encoding.proofs.text.decimal_digits.Tie as tie
+
+abbrev Inv-loop : tie.InvT-loop
+Inv-loop n text₀ from₀ rest₀ text from rest = Spelt 10 (beforeLast from rest) (decimal n) text from
+
+abbrev μ-loop : tie.MeasureT-loop
+μ-loop n text₀ from₀ rest₀ text from rest = from
+
+begun : tie.Need-loop-holds Inv-loop μ-loop
+unfolding decimalDigits
+begun c = record { long = refl; within = search needs; whole = rw (c .digit-of .ensures) }
+
+ended : tie.Need-returns Inv-loop μ-loop
+ended c = (search needs, spelt-all (c .before .before .loop .inv) (decimal-short _ _ (c .if1 .taken)))
+
+again : tie.Need-loop-again Inv-loop μ-loop
+again c =
+    spelt-more _ _ (c .before .before .before .loop .inv) (c .before .before .loop-test .taken)
+    (decimal-last _ _ (c .before .before .loop-test .taken) (c .before .if1 .left) ∙ rw (c .digit-of2 .ensures))
+
+ended-2 : tie.Need-returns-2 Inv-loop μ-loop
+ended-2 c = (search needs, spelt-all (c .before .loop .inv) (decimal-none _ (c .before .loop .rest) (c .loop-test .left)))
+
+pub decimal-digits-spec : {M : Type 1} → statement M
+decimal-digits-spec =
+    tie.close
+    (tie.spec
+    Inv-loop
+    μ-loop
+    (λ c κs. search needs)
+    (λ c. search needs)
+    begun
+    ended
+    (λ c. search needs)
+    (λ c κs. search needs)
+    (λ c. search needs)
+    (λ c. search needs)
+    again
+    ended-2)

@@ -1,0 +1,3 @@
+mod Signed
+mod Refusals
+pub mod Places
