@@ -30,3 +30,10 @@ module _ (sections length samples : ℕ) (ok : rangesOk sections length samples 
 
   pub short-headroom : samples ≤ maxHeadroomSamples
   short-headroom = leb-true samples maxHeadroomSamples (and-right (fromTo 1 maxSections sections && fromTo 1 maxFilterLengthBlocks length) _ ok)
+
+-- settings that pass number 3 lie in their ranges
+pub sections-in-ranges :
+    (sections length samples : ℕ) → sectionsOk sections length samples ≡ true → rangesOk sections length samples ≡ true
+unfolding sectionsOk
+sections-in-ranges sections length samples ok =
+    and-left (rangesOk sections length samples) (leb sections 1 || leb (sections + headroomBlocks samples) length) ok

@@ -5,16 +5,20 @@ use mathlib.Core.List.{List, [], _∷_, _++_}
 use Prim.Native.Nat.{ℕ, zero, suc, _-_, _/_, _%_, _≤_, _<_}
 use native.Mathlib.Omega.{arith}
 use lib.Dec.{ltb}
-use lib.ListN.{length, getD, set, drop, length-set}
-use lib.Seq.{drop-cons, getD-set-same, drop-set-lt, append-snoc}
+use lib.ListN.{length, getD, set, take, drop, length-set, length-drop, length-append}
+use lib.Seq.{drop-cons, getD-set-same, drop-set-lt, take-all, append-snoc}
 use borrow.Author.Tests.{lt-ltb, le-ltb}
-use Rattle.encoding.specs.Text.{digit, hexDigits, decimalDigits}
+use Rattle.encoding.specs.Text.{digit, hexDigits, hex8, decimalDigits, decimal}
 
 -- What a loop has written of a text: what is left of it, and the table from its place on, are the text.
 pub record Spelt (size : ℕ) (left text table : List ℕ) (from : ℕ) : Type 0 where
   pub long : length table ≡ size
   pub within : from ≤ size
   pub whole : left ++ drop from table ≡ text
+
+-- a part of a table up to its end
+pub part-is : (l : List ℕ) (k n : ℕ) → length l ≡ n → take (n - k) (drop k l) ≡ drop k l
+part-is l k n e = take-all (n - k) (drop k l) (omega (arith, length-drop k l))
 
 -- a table with x at j, from j on
 from-set : (l : List ℕ) (j x : ℕ) → j < length l → drop j (set l j x) ≡ x ∷ drop (suc j) l
@@ -79,3 +83,21 @@ decimal-none zero n h = same (ltb n 10)
     same true = refl
     same false = refl
 decimal-none (suc k) n h = absurd (omega arith)
+
+-- how long the two texts are
+pub length-hex8 : (n : ℕ) → length (hex8 n) ≡ 8
+unfolding hexDigits
+length-hex8 n = refl
+
+one-more : (t : Bool) (s : List ℕ) (x k : ℕ) → length s ≤ k → length (cond t [] s ++ (x ∷ [])) ≤ suc k
+one-more true s x k h = omega arith
+one-more false s x k h = omega (arith, length-append s (x ∷ []))
+
+length-decimalDigits : (k n : ℕ) → length (decimalDigits k n) ≤ k
+unfolding decimalDigits
+length-decimalDigits zero n = omega arith
+length-decimalDigits (suc k) n =
+    one-more (ltb n 10) (decimalDigits k (n / 10)) (digit (n % 10)) k (length-decimalDigits k (n / 10))
+
+pub length-decimal : (n : ℕ) → length (decimal n) ≤ 10
+length-decimal n = length-decimalDigits 10 n

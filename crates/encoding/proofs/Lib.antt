@@ -1,4 +1,6 @@
 pub mod Past
 pub mod Floats
 pub mod Digits
+pub mod Reading
+pub mod Copying
 pub mod Writing

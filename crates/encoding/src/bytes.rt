@@ -32,7 +32,9 @@ pub fn half_at(s: &[u8], i: usize) -> u32
     ensures { λ r. ⌜ r < 65536 ⌝ }
 {
     if i < s.len() {
-        byte_at(s, i) + 256 * byte_at(s, i + 1)
+        let low = byte_at(s, i);
+        let high = byte_at(s, i + 1);
+        low + 256 * high
     } else {
         0
     }
@@ -43,7 +45,9 @@ pub fn word_at(s: &[u8], i: usize) -> u32
     ensures { λ r. ⌜ r ≡ wordAt (now (s .entry)) i ⌝ }
 {
     if i < s.len() {
-        half_at(s, i) + 65536 * half_at(s, i + 2)
+        let low = half_at(s, i);
+        let high = half_at(s, i + 2);
+        low + 65536 * high
     } else {
         0
     }

@@ -62,7 +62,7 @@ struct Digits {
 
 // The last digit first, and then for as long as something is left of the number. It has no more than ten.
 fn decimal_digits(n: u32) -> Digits
-    ensures { λ r. ⌜ r .from ≤ 10 ⌝ }
+    ensures { λ r. ⌜ (r .from ≤ 10) × (length (r .text) ≡ 10) ⌝ }
     ensures { λ r. ⌜ drop (r .from) (r .text) ≡ decimal n ⌝ }
 {
     let mut text = [0u8; 10];

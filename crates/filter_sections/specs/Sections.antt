@@ -1,12 +1,13 @@
 -- The sections of an adaptive filter: their sizes and boundaries in blocks, for any length and any number of sections.
+use mathlib.Core.Path.{_≡_}
 use mathlib.Core.Bool.{Bool, cond, _&&_}
 use mathlib.Core.List.{List, [], _∷_}
-use Prim.Native.Nat.{ℕ, zero, suc, _+_, _-_, _*_, _/_, _%_}
+use Prim.Native.Nat.{ℕ, zero, suc, _+_, _-_, _*_, _/_, _%_, _≤_, _<_}
 use lib.Dec.{leb, ltb, eqb}
-use lib.ListN.{getD}
-use Rattle.filter_sections.specs.declared.Sections.{Sections}
+use lib.ListN.{getD, take, drop}
+use Rattle.filter_sections.specs.declared.sections.Sections.{Sections}
 use Rattle.aec3_common.specs.Lists.{tab}
-use Rattle.aec3_common.specs.Refusal.{unless, accepted, badSections}
+use Rattle.aec3_common.specs.Refusal.{accepted, badSections}
 use Rattle.aec3_common.specs.Settings.{headroomBlocks, maxSections, sectionsOk}
 
 -- n sections share the blocks evenly: each has the quotient, and the last the remainder too
@@ -21,7 +22,7 @@ takes size n blocks = ltb 1 n && ltb (size * n) blocks
 unfoldable pub doubling : ℕ → ℕ → ℕ → List ℕ
 doubling size zero blocks = []
 doubling size (suc n) blocks =
-    cond (takes size (suc n) blocks) (size ∷ doubling (2 * size) n (blocks - size)) (evenly (suc n) blocks)
+    cond (takes size (suc n) blocks) (size ∷ doubling (size * 2) n (blocks - size)) (evenly (suc n) blocks)
 
 -- section sizes double from 2
 abbrev pub sectionSizes : ℕ → ℕ → List ℕ
@@ -42,13 +43,16 @@ boundaries n blocks headroom =
 abbrev pub padded : ℕ → List ℕ → List ℕ
 padded n xs = tab n (λ k. getD xs k 0)
 
--- number 3 alone
-abbrev pub sectionsRefusal : ℕ → ℕ → ℕ → ℕ
-sectionsRefusal n blocks samples = unless (sectionsOk n blocks samples) badSections accepted
-
 -- The answer: the boundaries and 0, or no boundaries and the refusal.
 unfoldable pub sectionsAnswer : ℕ → ℕ → ℕ → Sections
 sectionsAnswer n blocks samples =
     cond (sectionsOk n blocks samples)
     (record { boundaries = padded (suc maxSections) (boundaries n blocks (headroomBlocks samples)); refused = accepted })
     (record { boundaries = padded (suc maxSections) []; refused = badSections })
+
+-- What is known where doubling has ended: the sizes so far stand in a table of so many places, and the sections left share the blocks left evenly.
+pub record Doubled (n blocks : ℕ) (places : ℕ) (sizes : List ℕ) (taken left : ℕ) : Type 0 where
+  pub some : taken < n
+  pub few : left ≤ blocks
+  pub begun : sizes ≡ padded places (take taken (sectionSizes n blocks))
+  pub rest : drop taken (sectionSizes n blocks) ≡ evenly (n - taken) left

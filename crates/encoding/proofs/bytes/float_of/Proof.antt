@@ -1,3 +1,4 @@
+use native.Mathlib.Omega.{arith}
 use borrow.Author.Needs.{needs}
 use lib.Ieee.{div, ofBits}
 use Rattle.encoding.proofs.Floats.{number-bits, nan-bits}
@@ -5,7 +6,7 @@ use Rattle.encoding.proofs.bytes.float_of.Statement.{statement}
 use Rattle.encoding.proofs.bytes.float_of.Tie as tie
 
 no-nan : tie.Need-float-from-bits-result
-no-nan c = number-bits _ (c .if1 .taken)
+no-nan c = number-bits _ (omega arith)
 
 of-nan : tie.Need-returns-2
 unfolding div ofBits

@@ -1,7 +1,7 @@
 use Prim.Native.Nat.{_-_}
 use lib.ListN.{length}
 use borrow.Author.Needs.{needs}
-use Rattle.encoding.proofs.Writing.{Copied, copied-none, copied-more, copied-all}
+use Rattle.encoding.proofs.Copying.{Copied, copied-none, copied-more, copied-all}
 use Rattle.encoding.proofs.text.copy.Statement.{statement}
 use Rattle.encoding.proofs.text.copy.Tie as tie
 

@@ -1,4 +1,5 @@
 use mathlib.Core.Path.{refl, sym, ap, _∙_}
+use native.Mathlib.Omega.{arith}
 use borrow.Author.Needs.{needs}
 use Rattle.encoding.specs.Text.{decimalDigits, decimal}
 use Rattle.encoding.proofs.Digits.{Spelt, spelt-more, spelt-all, beforeLast, decimal-last, decimal-short, decimal-none}
@@ -16,15 +17,20 @@ unfolding decimalDigits
 begun c = record { long = refl; within = search needs; whole = rw (c .digit-of .ensures) }
 
 ended : tie.Need-returns Inv-loop μ-loop
-ended c = (search needs, spelt-all (c .before .before .loop .inv) (decimal-short _ _ (c .if1 .taken)))
+ended c =
+    let l = c .before .before .loop in
+    ((search needs, l .inv .long), spelt-all (l .inv) (decimal-short _ (l .rest) (omega arith)))
 
 again : tie.Need-loop-again Inv-loop μ-loop
 again c =
-    spelt-more _ _ (c .before .before .before .loop .inv) (c .before .before .loop-test .taken)
-    (decimal-last _ _ (c .before .before .loop-test .taken) (c .before .if1 .left) ∙ rw (c .digit-of2 .ensures))
+    let some = c .before .before .loop-test .taken in
+    spelt-more _ _ (c .before .before .before .loop .inv) some
+    (decimal-last _ _ some (c .before .if1 .left) ∙ rw (c .digit-of2 .ensures))
 
 ended-2 : tie.Need-returns-2 Inv-loop μ-loop
-ended-2 c = (search needs, spelt-all (c .before .loop .inv) (decimal-none _ (c .before .loop .rest) (c .loop-test .left)))
+ended-2 c =
+    let l = c .before .loop in
+    ((search needs, l .inv .long), spelt-all (l .inv) (decimal-none _ (l .rest) (c .loop-test .left)))
 
 pub decimal-digits-spec : {M : Type 1} → statement M
 decimal-digits-spec =

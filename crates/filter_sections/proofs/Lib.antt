@@ -1,0 +1,3 @@
+mod Sizes
+mod Loops
+pub mod Claims
