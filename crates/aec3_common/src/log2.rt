@@ -4,7 +4,7 @@ ghost use mathlib.Core.Path.{_≡_};
 ghost use mathlib.Core.Bool.{true};
 ghost use lib.Ieee.{lt};
 ghost use Rattle.aec3_common.specs.Binary32.{zero32};
-ghost use Rattle.aec3_common.specs.Log2.{approxLog2, log2Answer};
+ghost use Rattle.aec3_common.specs.Log2.{approxLog2, log2Answer, rounded as Log2·rounded};
 
 pub enum Log2 {
     Value(f32),
@@ -27,6 +27,12 @@ pub fn log2_of_positive(input: f32) -> f32
     requires { ⌜ lt zero32 input ≡ true ⌝ }
     ensures { λ r. ⌜ r ≡ approxLog2 input ⌝ }
 {
-    let bits = f32::to_bits(input);
-    std::num::nearest_u32_to_f32(bits) * 0.00000011920929 - 126.942695
+    rounded(f32::to_bits(input)) * 0.00000011920929 - 126.942695
+}
+
+// A whole number as the nearest binary32 number, ties to even: two exact halves and one rounded sum.
+pub fn rounded(n: u32) -> f32
+    ensures { λ r. ⌜ r ≡ Log2·rounded n ⌝ }
+{
+    std::num::nearest_u32_to_f32(n)
 }

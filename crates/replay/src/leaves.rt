@@ -3,6 +3,7 @@ use crate::line::Turn;
 use crate::line::bad;
 use crate::line::line_end;
 use crate::line::put_count;
+use crate::line::put_field;
 use crate::line::put_refused;
 use aec3_common::Log2;
 use aec3_common::fast_approx_log2f;
@@ -75,8 +76,7 @@ fn put_boundaries(out: &mut [u8], at: usize, boundaries: [usize; 9], sections: u
         if sections < k {
             return at;
         }
-        at = put_bytes(out, at, b" ");
-        at = put_count(out, at, boundaries[k]);
+        at = put_field(out, at, boundaries[k]);
         k += 1;
     }
     at

@@ -34,6 +34,12 @@ pub fn put_count(out: &mut [u8], at: usize, n: usize) -> usize {
     put_decimal(out, at, (n % 0x1_0000_0000) as u32)
 }
 
+// One more field of a line.
+pub fn put_field(out: &mut [u8], at: usize, n: usize) -> usize {
+    let at = put_bytes(out, at, b" ");
+    put_count(out, at, n)
+}
+
 // The number under which a call is turned away.
 pub fn put_refused(out: &mut [u8], at: usize, number: u32) -> usize {
     let at = put_bytes(out, at, b"refused ");

@@ -25,17 +25,17 @@ pub fn replay_next(record: &mut [u8], out: &mut [u8], at: usize) -> Turn {
     if record.len() < n {
         return bad(out, at);
     }
-    let read = io::read_full(STDIN_FILENO, &mut record[..n]);
+    let read = io::read_full(STDIN_FILENO, &mut record[0..n]);
     if read < n {
         return bad(out, at);
     }
-    replay_record(&record[..n], out, at)
+    replay_record(&record[0..n], out, at)
 }
 
 // Writes the text before a place. A failure can be told nowhere.
 pub fn write_out(out: &[u8], at: usize) {
     if at <= out.len() {
-        io::write_all(STDOUT_FILENO, &out[..at]);
+        io::write_all(STDOUT_FILENO, &out[0..at]);
     }
 }
 

@@ -1,0 +1,13 @@
+-- The bench table holds, by computation.
+use mathlib.Core.Path.{refl}
+use lib.Ieee.{ofBits, toBits, ofInt, toUnsigned, mul, sub, lt}
+use Rattle.aec3_common.specs.Lists.{tab}
+use Rattle.aec3_common.specs.Log2.{approxLog2, log2Answer}
+use Rattle.aec3_common.specs.Settings.{sectionsOk}
+use Rattle.spectrum_buffer.specs.Ring.{offsetPlace, offsetRefusal, offsetAnswer}
+use Rattle.filter_sections.specs.Sections.{evenly, doubling, runningSums, boundaries, sectionsAnswer}
+use Rattle.bench_values.specs.Bench.{table, BenchTable}
+
+pub bench-table : BenchTable
+unfolding BenchTable table ofBits toBits ofInt toUnsigned mul sub lt tab approxLog2 log2Answer sectionsOk offsetPlace offsetRefusal offsetAnswer evenly doubling runningSums boundaries sectionsAnswer
+bench-table = refl
