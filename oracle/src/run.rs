@@ -1,20 +1,20 @@
 //! Runs a script through the published Rust.
 
-use crate::kinds::Session;
+use crate::kinds::Groups;
 use crate::lines::Lines;
 use crate::record::take_record;
 
 /// A run over a script, record by record.
 pub struct Run<'a> {
     rest: &'a [u8],
-    session: Session,
+    groups: Groups,
 }
 
 impl<'a> Run<'a> {
     pub fn new(script: &'a [u8]) -> Self {
         Self {
             rest: script,
-            session: Session::new(),
+            groups: Groups::new(),
         }
     }
 
@@ -26,7 +26,7 @@ impl<'a> Run<'a> {
             return None;
         }
         let record = take_record(&mut self.rest);
-        if record.and_then(|r| self.session.answer(&r, lines)).is_err() {
+        if record.and_then(|r| self.groups.answer(&r, lines)).is_err() {
             lines.push(format_args!("bad"));
             self.rest = &[];
         }

@@ -1,11 +1,11 @@
 -- Digits that are written into a table from its end towards its front.
-use mathlib.Core.Path.{_≡_, refl, sym, ap, _∙_}
+use mathlib.Core.Path.{_≡_, refl, _∙_}
 use mathlib.Core.Bool.{Bool, true, false, cond}
 use mathlib.Core.List.{List, [], _∷_, _++_}
 use Prim.Native.Nat.{ℕ, zero, suc, _-_, _/_, _%_, _≤_, _<_}
 use native.Mathlib.Omega.{arith}
 use lib.Dec.{ltb}
-use lib.ListN.{length, getD, set, take, drop, length-set, length-drop, length-append}
+use lib.ListN.{length, set, take, drop, length-set, length-drop, length-append}
 use lib.Seq.{drop-cons, getD-set-same, drop-set-lt, take-all, append-snoc}
 use borrow.Author.Tests.{lt-ltb, le-ltb}
 use Rattle.encoding.specs.Text.{digit, hexDigits, hex8, decimalDigits, decimal}

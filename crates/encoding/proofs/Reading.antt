@@ -1,18 +1,17 @@
 -- Digits name their number: what is read back from them is it, and none of it is lost.
-use mathlib.Core.Path.{_≡_, refl, sym, ap, _∙_}
+use mathlib.Core.Path.{_≡_, refl, _∙_}
 use mathlib.Core.Bool.{Bool, true, false, cond}
 use mathlib.Core.List.{List, [], _∷_, _++_}
-use Prim.Native.Nat.{ℕ, zero, suc, _+_, _-_, _*_, _/_, _%_, _^_, _≤_, _<_}
+use Prim.Native.Nat.{ℕ, zero, suc, _+_, _-_, _*_, _/_, _%_, _^_, _<_}
 use native.Mathlib.Nat.{pow-succ'}
 use native.Mathlib.Omega.{arith}
 use lib.Dec.{ltb}
-use lib.ListN.{length, length-append}
 use borrow.Author.Tests.{lt-ltb, le-ltb, ltb-true, ltb-false}
 use Rattle.encoding.specs.Text.{digit, hexDigits, hex8, decimalDigits, decimal}
 
 -- what a digit stands for
 unfoldable pub worth : ℕ → ℕ
-worth c = cond (ltb c 65) (c - 48) (c - 55)
+worth c = cond (ltb c 65) (c - 48) (10 + (c - 65))
 
 -- the number that digits name in a base, behind those that name n
 unfoldable pub named : ℕ → ℕ → List ℕ → ℕ
@@ -28,9 +27,9 @@ worth-digit : (d : ℕ) → d < 16 → worth (digit d) ≡ d
 unfolding worth digit
 worth-digit d h = go (ltb d 10) refl
   where
-    go : (t : Bool) → ltb d 10 ≡ t → worth (cond t (48 + d) (55 + d)) ≡ d
+    go : (t : Bool) → ltb d 10 ≡ t → worth (cond t (48 + d) (65 + (d - 10))) ≡ d
     go true e = rw (lt-ltb (48 + d) 65 (omega (arith, ltb-true d 10 e))) (omega arith)
-    go false e = rw (le-ltb (55 + d) 65 (omega (arith, ltb-false d 10 e))) (omega arith)
+    go false e = rw (le-ltb (65 + (d - 10)) 65 (omega arith)) (omega (arith, ltb-false d 10 e))
 
 hexDigits-name : (k n : ℕ) → n < 16 ^ k → named 16 0 (hexDigits k n) ≡ n
 unfolding named hexDigits

@@ -1,5 +1,5 @@
 -- Text in ASCII, and what becomes of a list that it is written over.
-use Prim.Native.Nat.{ℕ, zero, suc, _+_, _/_, _%_}
+use Prim.Native.Nat.{ℕ, zero, suc, _+_, _-_, _/_, _%_}
 use mathlib.Core.Bool.{Bool, cond}
 use mathlib.Core.List.{List, [], _∷_, _++_}
 use lib.Dec.{leb, ltb}
@@ -23,7 +23,7 @@ after d at s = cond (room d at s) (at + length s) at
 
 -- a digit: 0 to 9, then A to F
 unfoldable pub digit : ℕ → ℕ
-digit d = cond (ltb d 10) (48 + d) (55 + d)
+digit d = cond (ltb d 10) (48 + d) (65 + (d - 10))
 
 -- the last k hexadecimal digits of n
 unfoldable pub hexDigits : ℕ → ℕ → List ℕ

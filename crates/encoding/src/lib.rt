@@ -1,5 +1,5 @@
-// How numbers are read from bytes, and how text is written over a lent slice. Every function is total: none asks
-// anything of its caller.
+// How numbers are read from bytes, and how text is written over a lent slice. No public function asks anything of its
+// caller.
 pub mod bytes;
 pub mod text;
 

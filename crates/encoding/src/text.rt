@@ -1,10 +1,11 @@
 // Text in ASCII, written over a lent slice from a place on: all of it and the place after it, or, where there is no
 // room for all, nothing and the same place.
 ghost use mathlib.Core.Path.{_≡_};
-ghost use Prim.Native.Nat.{_+_, _≤_};
+ghost use Prim.Native.Nat.{_+_, _≤_, _<_};
 ghost use lib.ListN.{length, drop};
 ghost use Rattle.encoding.specs.Text.{laid, written, after, digit, hex8, decimal};
 
+// Lays s over out.
 fn copy(out: &mut [u8], at: usize, s: &[u8])
     requires { ⌜ at + length (now s) ≤ length (now out) ⌝ }
     ensures { λ _. ⌜ now (out .exit) ≡ laid (now (out .entry)) at (now (s .entry)) ⌝ }
@@ -16,7 +17,7 @@ fn copy(out: &mut [u8], at: usize, s: &[u8])
     }
 }
 
-// Writes s.
+// Writes s. The sum of at and its length is made only where it cannot wrap.
 pub fn put_bytes(out: &mut [u8], at: usize, s: &[u8]) -> usize
     ensures { λ _. ⌜ now (out .exit) ≡ written (now (out .entry)) at (now (s .entry)) ⌝ }
     ensures { λ r. ⌜ r ≡ after (now (out .entry)) at (now (s .entry)) ⌝ }
@@ -34,12 +35,17 @@ pub fn put_bytes(out: &mut [u8], at: usize, s: &[u8]) -> usize
 
 // The digit that stands for d.
 fn digit_of(d: u32) -> u8
-    requires { ⌜ d ≤ 15 ⌝ }
+    requires { ⌜ d < 16 ⌝ }
     ensures { λ r. ⌜ r ≡ digit d ⌝ }
 {
-    if d < 10 { 48 + d as u8 } else { 55 + d as u8 }
+    if d < 10 {
+        b'0' + d as u8
+    } else {
+        b'A' + (d - 10) as u8
+    }
 }
 
+// All eight digits, the last first.
 fn hex_digits(n: u32) -> [u8; 8]
     ensures { λ r. ⌜ r ≡ hex8 n ⌝ }
 {
@@ -54,13 +60,13 @@ fn hex_digits(n: u32) -> [u8; 8]
     text
 }
 
-// Digits at the end of a table, from a place on.
+// Digits from a place on to the end of a table.
 struct Digits {
     text: [u8; 10],
     from: usize,
 }
 
-// The last digit first, and then for as long as something is left of the number. It has no more than ten.
+// The last digit first, and one more for as long as something is left of the number, which has no more than ten.
 fn decimal_digits(n: u32) -> Digits
     ensures { λ r. ⌜ (r .from ≤ 10) × (length (r .text) ≡ 10) ⌝ }
     ensures { λ r. ⌜ drop (r .from) (r .text) ≡ decimal n ⌝ }

@@ -11,7 +11,7 @@ use script::write_out;
 ghost use mathlib.Core.Path.{_≡_};
 ghost use lib.ListN.{length};
 
-// The longest record that is read: a longer one counts as malformed.
+// Room for the longest record that is read: a longer one counts as malformed.
 fn record_buffer() -> [u8; 131072]
     ensures { λ r. ⌜ 131072 ≡ length r ⌝ }
 {
@@ -31,6 +31,7 @@ fn run(record: &mut [u8], out: &mut [u8]) {
         at = flushed(out, turn.at);
         turns -= 1;
     }
+    write_out(out, at);
 }
 
 fn main() {

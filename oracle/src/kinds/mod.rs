@@ -7,11 +7,11 @@ use crate::record::{Malformed, Record};
 use leaves::Leaves;
 
 /// What the groups of kinds keep from record to record.
-pub struct Session {
+pub struct Groups {
     leaves: Leaves,
 }
 
-impl Session {
+impl Groups {
     pub fn new() -> Self {
         Self {
             leaves: Leaves::new(),

@@ -1,3 +1,4 @@
+-- A number that equals itself is no NaN, and one that does not has the NaN's bits.
 use borrow.Author.Needs.{needs}
 use Rattle.encoding.proofs.Floats.{equals-itself, differs}
 use Rattle.encoding.proofs.bytes.bits_of.Statement.{statement}

@@ -1,3 +1,4 @@
+-- Past the end the byte is 0.
 use mathlib.Core.Path.{sym}
 use borrow.Author.Needs.{needs}
 use Rattle.encoding.proofs.Past.{byte-past}

@@ -1,3 +1,4 @@
+-- Up to infinity's bits no pattern is a NaN's, and above them each is.
 use native.Mathlib.Omega.{arith}
 use borrow.Author.Needs.{needs}
 use lib.Ieee.{div, ofBits}

@@ -1,3 +1,4 @@
+-- Within the slice the two halves are the definition's; past its end they are 0.
 use mathlib.Core.Path.{sym}
 use borrow.Author.Needs.{needs}
 use Rattle.encoding.specs.Bytes.{wordAt}

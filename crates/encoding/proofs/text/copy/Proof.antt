@@ -1,3 +1,4 @@
+-- The loop's invariant: the first i bytes of s are laid over the slice as it was.
 use Prim.Native.Nat.{_-_}
 use lib.ListN.{length}
 use borrow.Author.Needs.{needs}

@@ -1,4 +1,5 @@
-use mathlib.Core.Path.{refl, sym, ap, _∙_}
+-- The loop's invariant: the digits before the last one of what is left, and the table from its place on, are the text.
+use mathlib.Core.Path.{refl, _∙_}
 use native.Mathlib.Omega.{arith}
 use borrow.Author.Needs.{needs}
 use Rattle.encoding.specs.Text.{decimalDigits, decimal}
@@ -16,8 +17,8 @@ begun : tie.Need-loop-holds Inv-loop μ-loop
 unfolding decimalDigits
 begun c = record { long = refl; within = search needs; whole = rw (c .digit-of .ensures) }
 
-ended : tie.Need-returns Inv-loop μ-loop
-ended c =
+no-more : tie.Need-returns Inv-loop μ-loop
+no-more c =
     let l = c .before .before .loop in
     ((search needs, l .inv .long), spelt-all (l .inv) (decimal-short _ (l .rest) (omega arith)))
 
@@ -27,8 +28,8 @@ again c =
     spelt-more _ _ (c .before .before .before .loop .inv) some
     (decimal-last _ _ some (c .before .if1 .left) ∙ rw (c .digit-of2 .ensures))
 
-ended-2 : tie.Need-returns-2 Inv-loop μ-loop
-ended-2 c =
+at-front : tie.Need-returns-2 Inv-loop μ-loop
+at-front c =
     let l = c .before .loop in
     ((search needs, l .inv .long), spelt-all (l .inv) (decimal-none _ (l .rest) (c .loop-test .left)))
 
@@ -41,10 +42,10 @@ decimal-digits-spec =
     (λ c κs. search needs)
     (λ c. search needs)
     begun
-    ended
+    no-more
     (λ c. search needs)
     (λ c κs. search needs)
     (λ c. search needs)
     (λ c. search needs)
     again
-    ended-2)
+    at-front)

@@ -1,3 +1,4 @@
+-- Each branch is the definition's.
 use borrow.Author.Needs.{needs}
 use borrow.Author.Tests.{lt-ltb, le-ltb}
 use Rattle.encoding.specs.Text.{digit}

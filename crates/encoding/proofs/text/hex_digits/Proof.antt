@@ -1,3 +1,4 @@
+-- The loop's invariant: the digits of what is left, and the table from its place on, are the whole text.
 use mathlib.Core.Path.{refl, _∙_}
 use borrow.Author.Needs.{needs}
 use mathlib.Core.List.{append-nil}

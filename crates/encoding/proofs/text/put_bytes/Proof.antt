@@ -1,3 +1,4 @@
+-- There is no room where the place is past the end, or too near to it; else all is laid.
 use mathlib.Core.Path.{sym, _∙_}
 use native.Mathlib.Omega.{arith}
 use borrow.Author.Needs.{needs}

@@ -1,3 +1,4 @@
+-- The table from its place on is the text.
 use mathlib.Core.Path.{_∙_}
 use native.Mathlib.Omega.{arith}
 use borrow.Author.Needs.{needs}

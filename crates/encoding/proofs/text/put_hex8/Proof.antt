@@ -1,3 +1,4 @@
+-- The table is the text.
 use borrow.Author.Needs.{needs}
 use Rattle.encoding.proofs.text.put_hex8.Statement.{statement}
 use Rattle.encoding.proofs.text.put_hex8.Tie as tie
