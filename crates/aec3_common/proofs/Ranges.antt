@@ -4,7 +4,8 @@ use mathlib.Core.Bool.{Bool, true, _&&_, _||_}
 use Prim.Native.Nat.{ℕ, _+_, _≤_}
 use lib.Dec.{leb}
 use borrow.Author.Tests.{leb-true}
-use Rattle.aec3_common.specs.Settings.{fromTo, headroomBlocks, rangesOk, sectionsOk, maxSections, maxFilterLengthBlocks, maxHeadroomSamples}
+use Rattle.aec3_common.specs.Refusal.{fromTo}
+use Rattle.aec3_common.specs.Settings.{headroomBlocks, roomForSections, rangesOk, sectionsOk, maxSections, maxFilterLengthBlocks, maxHeadroomSamples}
 use Rattle.aec3_common.proofs.Choices.{and-left, and-right}
 
 module _ (lo hi n : ℕ) (ok : fromTo lo hi n ≡ true) where
@@ -36,4 +37,4 @@ pub sections-in-ranges :
     (sections length samples : ℕ) → sectionsOk sections length samples ≡ true → rangesOk sections length samples ≡ true
 unfolding sectionsOk
 sections-in-ranges sections length samples ok =
-    and-left (rangesOk sections length samples) (leb sections 1 || leb (sections + headroomBlocks samples) length) ok
+    and-left (rangesOk sections length samples) (leb sections 1 || roomForSections sections length (headroomBlocks samples)) ok

@@ -1,6 +1,8 @@
 -- binary32 numbers: constants, and the operations that every estimator shares, each rounded once.
 use mathlib.Core.Bool.{Bool, cond, _&&_}
+use mathlib.Core.List.{List}
 use lib.Ieee.{Float, binary32, ofBits, add, sub, mul, lt, le}
+use Rattle.aec3_common.specs.Lists.{every}
 
 -- plus zero
 abbrev pub zero32 : Float
@@ -22,7 +24,7 @@ greatestValue = ofBits binary32 0x7180_0000
 abbrev pub greatestSum : Float
 greatestSum = ofBits binary32 0x7680_0000
 
--- x, or the end of lo to hi that it lies beyond; a NaN stays, as in Rust's f32::clamp
+-- x, or the end of lo to hi that it lies beyond; a NaN stays. For lo ≤ hi this is Rust's f32::clamp.
 unfoldable pub clamped : Float → Float → Float → Float
 clamped x lo hi = cond (lt x lo) lo (cond (lt hi x) hi x)
 
@@ -41,3 +43,11 @@ moved old new share = add binary32 old (mul binary32 share (sub binary32 new old
 -- a value in 0 to hi: negative zero passes, a NaN does not
 abbrev pub within : Float → Float → Bool
 within hi x = le zero32 x && le x hi
+
+-- number 6: every spectrum or response value lies in 0 to 2^100
+abbrev pub valuesOk : List Float → Bool
+valuesOk xs = every (within greatestValue) xs
+
+-- every held sum lies in 0 to 2^110
+abbrev pub sumsOk : List Float → Bool
+sumsOk xs = every (within greatestSum) xs

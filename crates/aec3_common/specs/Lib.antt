@@ -3,3 +3,4 @@ pub mod Refusal
 pub mod Binary32
 pub mod Log2
 pub mod Settings
+pub mod Constants

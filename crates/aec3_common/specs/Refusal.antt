@@ -1,6 +1,7 @@
 -- The numbers under which a call or a record is turned away, and how the first of them in order is found.
-use mathlib.Core.Bool.{Bool, cond}
+use mathlib.Core.Bool.{Bool, cond, _&&_}
 use Prim.Native.Nat.{ℕ}
+use lib.Dec.{leb}
 
 -- the call is accepted
 abbrev pub accepted : ℕ
@@ -59,8 +60,9 @@ badRecordLength = 12
 abbrev pub badFlagOrBand : ℕ
 badFlagOrBand = 13
 
--- a state that no start gives: its own settings break 1, 2 or 3; a point count, a held sum or an active section out of
--- range; or section boundaries other than its settings give
+-- a state whose own settings break 1, 2 or 3; or with a point count outside 0 to 6 (fullband 0 to 5), a held capture or
+-- residual sum not within 0 to 2^110, an active section not below its section count, or section boundaries other than its
+-- settings give
 abbrev pub badState : ℕ
 badState = 20
 
@@ -75,6 +77,10 @@ noSettings = 22
 -- a second settings record
 abbrev pub secondSettings : ℕ
 secondSettings = 23
+
+-- the test that a whole number lies in lo to hi
+abbrev pub fromTo : ℕ → ℕ → ℕ → Bool
+fromTo lo hi n = leb lo n && leb n hi
 
 -- The refusal n where a test fails, else what the later tests say. A chain of these gives the first refusal in order.
 abbrev pub unless : Bool → ℕ → ℕ → ℕ

@@ -5,7 +5,7 @@ use lib.Dec.{leb}
 use lib.Ieee.{Float, binary32, ofBits, le}
 use Rattle.aec3_common.specs.declared.settings.ErleSettings.{ErleSettings}
 use Rattle.aec3_common.specs.Binary32.{one32}
-use Rattle.aec3_common.specs.Refusal.{unless, accepted, badLimits, badChannelCount, badSections}
+use Rattle.aec3_common.specs.Refusal.{fromTo, unless, accepted, badLimits, badChannelCount, badSections}
 
 -- the limits of the domain
 abbrev pub maxCaptureChannels : ℕ
@@ -27,10 +27,6 @@ maxHeadroomSamples = 1024
 abbrev pub greatestErle : Float
 greatestErle = ofBits binary32 0x47c3_5000
 
--- a whole number from lo to hi
-abbrev pub fromTo : ℕ → ℕ → ℕ → Bool
-fromTo lo hi n = leb lo n && leb n hi
-
 -- headroom blocks: headroom samples divided by 64, rounded down
 abbrev pub headroomBlocks : ℕ → ℕ
 headroomBlocks samples = samples / 64
@@ -51,10 +47,14 @@ abbrev pub rangesOk : ℕ → ℕ → ℕ → Bool
 rangesOk sections length samples =
     fromTo 1 maxSections sections && fromTo 1 maxFilterLengthBlocks length && leb samples maxHeadroomSamples
 
--- number 3: the ranges, and one section or no more sections than the filter length less headroom blocks
+-- no more sections than the filter length less headroom blocks
+abbrev pub roomForSections : ℕ → ℕ → ℕ → Bool
+roomForSections sections length headroom = leb (sections + headroom) length
+
+-- number 3: the ranges, and one section or room for all
 unfoldable pub sectionsOk : ℕ → ℕ → ℕ → Bool
 sectionsOk sections length samples =
-    rangesOk sections length samples && (leb sections 1 || leb (sections + headroomBlocks samples) length)
+    rangesOk sections length samples && (leb sections 1 || roomForSections sections length (headroomBlocks samples))
 
 -- the first of 1, 2 and 3 that the settings break
 unfoldable pub settingsRefusal : ErleSettings → ℕ

@@ -1,6 +1,6 @@
 // binary32 helpers, each operation rounded once.
 ghost use mathlib.Core.Path.{_≡_};
-ghost use Rattle.aec3_common.specs.Binary32.{clamped, within};
+ghost use Rattle.aec3_common.specs.Binary32.{clamped, within, valuesOk, sumsOk};
 ghost use Rattle.aec3_common.specs.Binary32.{larger as Binary32·larger, smaller as Binary32·smaller, moved as Binary32·moved};
 ghost use Rattle.aec3_common.specs.Lists.{every};
 
@@ -43,20 +43,34 @@ pub fn moved(old: f32, new: f32, share: f32) -> f32
     old + share * (new - old)
 }
 
-fn in_range(x: f32, hi: f32) -> bool
+fn is_within(x: f32, hi: f32) -> bool
     ensures { λ r. ⌜ r ≡ within hi x ⌝ }
 {
     (0.0 <= x) & (x <= hi)
 }
 
+// Number 6.
+pub fn values_ok(xs: &[f32]) -> bool
+    ensures { λ r. ⌜ r ≡ valuesOk (now (xs .entry)) ⌝ }
+{
+    all_within(xs, GREATEST_VALUE)
+}
+
+// Whether every value can be a held sum.
+pub fn sums_ok(xs: &[f32]) -> bool
+    ensures { λ r. ⌜ r ≡ sumsOk (now (xs .entry)) ⌝ }
+{
+    all_within(xs, GREATEST_SUM)
+}
+
 // Whether every value lies in 0 to hi. No branch leaves the loop early, so that it compiles to vector code.
-pub fn all_within(xs: &[f32], hi: f32) -> bool
+fn all_within(xs: &[f32], hi: f32) -> bool
     ensures { λ r. ⌜ r ≡ every (within hi) (now (xs .entry)) ⌝ }
 {
     let mut ok = true;
     let mut k = 0;
     while k < xs.len() {
-        ok = ok & in_range(xs[k], hi);
+        ok = ok & is_within(xs[k], hi);
         k += 1;
     }
     ok

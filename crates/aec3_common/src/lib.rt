@@ -4,11 +4,12 @@ pub mod log2;
 pub mod refusal;
 pub mod settings;
 
-pub use binary32::all_within;
 pub use binary32::clamp;
 pub use binary32::larger;
 pub use binary32::moved;
 pub use binary32::smaller;
+pub use binary32::sums_ok;
+pub use binary32::values_ok;
 pub use log2::Log2;
 pub use log2::fast_approx_log2f;
 pub use settings::ErleSettings;
@@ -21,5 +22,5 @@ pub const FFT_LENGTH_BY_2_PLUS_1: usize = 65;
 // Samples in a block.
 pub const BLOCK_SIZE: usize = 64;
 
-// T, the render power above which a band has energy enough to learn from.
+// T, the render power that parts bands with energy from bands with little.
 pub const X2_BAND_ENERGY_THRESHOLD: f32 = 44_015_068.0;

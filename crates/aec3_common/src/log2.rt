@@ -22,7 +22,7 @@ pub fn fast_approx_log2f(input: f32) -> Log2
     }
 }
 
-// The same for a caller that knows its input to be positive.
+// The same for a caller that knows its input to be positive; it judges nothing.
 pub fn log2_of_positive(input: f32) -> f32
     requires { ⌜ lt zero32 input ≡ true ⌝ }
     ensures { λ r. ⌜ r ≡ approxLog2 input ⌝ }
@@ -30,7 +30,7 @@ pub fn log2_of_positive(input: f32) -> f32
     rounded(f32::to_bits(input)) * 0.00000011920929 - 126.942695
 }
 
-// A whole number as the nearest binary32 number, ties to even: two exact halves and one rounded sum.
+// A whole number as the nearest binary32 number, ties to even. The kit makes it of two exact halves and one rounded sum.
 pub fn rounded(n: u32) -> f32
     ensures { λ r. ⌜ r ≡ Log2·rounded n ⌝ }
 {

@@ -1,10 +1,15 @@
 // The settings of an ERLE estimator, and what turns them away.
+use crate::BLOCK_SIZE;
 use crate::refusal::ACCEPTED;
 use crate::refusal::BAD_CHANNEL_COUNT;
 use crate::refusal::BAD_LIMITS;
 use crate::refusal::BAD_SECTIONS;
 ghost use mathlib.Core.Path.{_≡_};
-ghost use Rattle.aec3_common.specs.Settings.{fromTo, headroomBlocks, limitsOk, captureChannelsOk, renderChannelsOk, rangesOk, sectionsOk, settingsRefusal};
+ghost use Rattle.aec3_common.specs.Refusal.{fromTo};
+ghost use Rattle.aec3_common.specs.Settings.{headroomBlocks, limitsOk, captureChannelsOk, renderChannelsOk, rangesOk, sectionsOk, settingsRefusal};
+
+// 100,000, above which no ERLE goes.
+pub const GREATEST_ERLE: f32 = 100_000.0;
 
 pub const MAX_CAPTURE_CHANNELS: usize = 4;
 
@@ -40,14 +45,18 @@ fn from_to(lo: usize, hi: usize, n: usize) -> bool
 pub fn headroom_blocks(samples: usize) -> usize
     ensures { λ r. ⌜ r ≡ headroomBlocks samples ⌝ }
 {
-    samples / 64
+    samples / BLOCK_SIZE
 }
 
 // Number 1: 1 <= min <= max_l, max_h <= 100,000; a NaN breaks it.
 pub fn limits_ok(min: f32, max_l: f32, max_h: f32) -> bool
     ensures { λ r. ⌜ r ≡ limitsOk min «max_l» «max_h» ⌝ }
 {
-    (1.0 <= min) & (min <= max_l) & (min <= max_h) & (max_l <= 100_000.0) & (max_h <= 100_000.0)
+    (1.0 <= min)
+        & (min <= max_l)
+        & (min <= max_h)
+        & (max_l <= GREATEST_ERLE)
+        & (max_h <= GREATEST_ERLE)
 }
 
 // Number 2, of capture channels.

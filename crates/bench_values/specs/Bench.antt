@@ -1,7 +1,10 @@
--- The starred bench values: what document 01 gives, beside what the definitions give.
+-- The starred bench values of what stands so far (all but the ERL value): what document 01 gives, beside what the
+-- definitions give.
 use mathlib.Core.Path.{_≡_}
+use mathlib.Core.Bool.{cond}
 use mathlib.Core.List.{List, [], _∷_, map}
 use Prim.Native.Nat.{ℕ, suc}
+use lib.Dec.{eqb}
 use lib.IntN.{ℤ, pos, negsuc}
 use lib.Ieee.{binary32, ofBits, toUnsigned}
 use lib.ListN.{take}
@@ -30,11 +33,11 @@ ringRow given size index offset =
     let a = offsetAnswer size index offset in
     record { given = given; defined = placeNumber a ∷ placeValue a }
 
--- the boundaries of so many sections of so many blocks, without headroom; a refusal shows the first places too, which are 0
+-- the boundaries of so many sections of so many blocks, without headroom
 abbrev pub sectionsRow : List ℕ → ℕ → ℕ → Row
 sectionsRow given n blocks =
     let a = sectionsAnswer n blocks 0 in
-    record { given = given; defined = a .refused ∷ take (suc n) (a .boundaries) }
+    record { given = given; defined = a .refused ∷ cond (eqb (a .refused) 0) (take (suc n) (a .boundaries)) [] }
 
 unfoldable pub table : List Row
 table =
@@ -46,7 +49,7 @@ table =
     ∷ ringRow (0 ∷ 4 ∷ []) 5 4 (pos 5)
     ∷ ringRow (8 ∷ []) 5 0 (pos 6)
     ∷ sectionsRow (0 ∷ 0 ∷ 2 ∷ 6 ∷ 13 ∷ []) 3 13
-    ∷ sectionsRow (3 ∷ 0 ∷ 0 ∷ 0 ∷ 0 ∷ []) 3 2
+    ∷ sectionsRow (3 ∷ []) 3 2
     ∷ []
 
 -- Claim: in every row of the table the definitions give what document 01 gives.

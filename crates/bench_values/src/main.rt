@@ -50,21 +50,66 @@ fn tell(out: &mut [u8], at: usize, given: &[u8], holds: bool) -> usize {
 }
 
 fn tell_log2(out: &mut [u8], at: usize) -> usize {
-    let at = tell(out, at, b"log2 of 1 has bits 3D6AB800", log2_has_bits(1.0, 0x3d6a_b800));
-    let at = tell(out, at, b"log2 of 4 has bits 4003AAE0", log2_has_bits(4.0, 0x4003_aae0));
-    tell(out, at, b"16,777,217 rounds to 16,777,216", rounded(16_777_217) == 16_777_216.0)
+    let at = tell(
+        out,
+        at,
+        b"log2 of 1 has bits 3D6AB800",
+        log2_has_bits(1.0, 0x3d6a_b800),
+    );
+    let at = tell(
+        out,
+        at,
+        b"log2 of 4 has bits 4003AAE0",
+        log2_has_bits(4.0, 0x4003_aae0),
+    );
+    tell(
+        out,
+        at,
+        b"16,777,217 rounds to 16,777,216",
+        rounded(16_777_217) == 16_777_216.0,
+    )
 }
 
 fn tell_ring(out: &mut [u8], at: usize) -> usize {
-    let at = tell(out, at, b"ring of 5: place 3 offset -5 gives 3", ring_gives(3, -5, 3));
-    let at = tell(out, at, b"ring of 5: place 0 offset -1 gives 4", ring_gives(0, -1, 4));
-    let at = tell(out, at, b"ring of 5: place 4 offset 5 gives 4", ring_gives(4, 5, 4));
-    tell(out, at, b"ring of 5: offset 6 is refused with 8", ring_refuses(0, 6, 8))
+    let at = tell(
+        out,
+        at,
+        b"ring of 5: place 3 offset -5 gives 3",
+        ring_gives(3, -5, 3),
+    );
+    let at = tell(
+        out,
+        at,
+        b"ring of 5: place 0 offset -1 gives 4",
+        ring_gives(0, -1, 4),
+    );
+    let at = tell(
+        out,
+        at,
+        b"ring of 5: place 4 offset 5 gives 4",
+        ring_gives(4, 5, 4),
+    );
+    tell(
+        out,
+        at,
+        b"ring of 5: offset 6 is refused with 8",
+        ring_refuses(0, 6, 8),
+    )
 }
 
 fn tell_sections(out: &mut [u8], at: usize) -> usize {
-    let at = tell(out, at, b"13 blocks, 3 sections give 0, 2, 6, 13", sections_end_at(3, 13, 2, 6, 13));
-    tell(out, at, b"2 blocks, 3 sections are refused with 3", sections_refuse(3, 2, 3))
+    let at = tell(
+        out,
+        at,
+        b"13 blocks, 3 sections give 0, 2, 6, 13",
+        sections_end_at(3, 13, 2, 6, 13),
+    );
+    tell(
+        out,
+        at,
+        b"2 blocks, 3 sections are refused with 3",
+        sections_refuse(3, 2, 3),
+    )
 }
 
 fn write_out(text: &[u8], n: usize) {

@@ -4,10 +4,10 @@ use mathlib.Core.List.{_∷_}
 use Prim.Native.Nat.{ℕ, _≤_}
 use lib.ListN.{List·getD-eq-default}
 use Rattle.aec3_common.specs.Lists.{tab}
-use Rattle.filter_sections.specs.Subbands.{SummedWhereMapped, laterBegins, subbandBegin, subbandOf}
+use Rattle.filter_sections.specs.Subbands.{SummedWhereMapped, laterBegins, subbandBegin, bandToSubband}
 
 pub summed-where-mapped : SummedWhereMapped
-unfolding SummedWhereMapped tab subbandBegin subbandOf
+unfolding SummedWhereMapped tab subbandBegin bandToSubband
 summed-where-mapped = refl
 
 pub subbands-over : (subband : ℕ) → 6 ≤ subband → subbandBegin subband ≡ 65

@@ -11,7 +11,8 @@ use lib.Dec.{ltb, eqb}
 use lib.ListN.{length, getD, take, drop, set, List·getD-eq-default}
 use lib.Seq.{getD-set-same, getD-take, getD-drop, drop-drop, length-take-le}
 use Rattle.aec3_common.proofs.Tables.{length-tab, Stored, stored-none, stored-more}
-use Rattle.filter_sections.specs.Sections.{evenly, takes, doubling, sectionSizes, runningSums, padded, Doubled}
+use Rattle.filter_sections.specs.Sections.{evenly, takes, doubling, sectionSizes, runningSums, padded}
+use Rattle.filter_sections.specs.Steps.{Doubled}
 use Rattle.filter_sections.proofs.Sizes.{padded-is, padded-at, takes-many, takes-below, doubling-goes-on, doubling-ends, length-doubling, evenly-at, length-sums, sums-first, sums-next}
 
 -- so many sizes, of more

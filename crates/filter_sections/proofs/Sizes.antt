@@ -13,7 +13,7 @@ use lib.Seq.{ext-getD, getD-take, getD-drop, drop-drop, length-take-le}
 use Rattle.aec3_common.specs.Lists.{tab}
 use Rattle.aec3_common.proofs.Choices.{and-left, and-right}
 use Rattle.aec3_common.proofs.Tables.{length-tab, getD-tab, tab-is, Stored, stored-none, stored-more}
-use Rattle.filter_sections.specs.Sections.{evenly, takes, doubling, sectionSizes, runningSums, padded, Doubled}
+use Rattle.filter_sections.specs.Sections.{evenly, takes, doubling, sectionSizes, runningSums, padded}
 
 -- ---- tables with zeros behind a list
 

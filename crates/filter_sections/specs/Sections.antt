@@ -1,10 +1,9 @@
 -- The sections of an adaptive filter: their sizes and boundaries in blocks, for any length and any number of sections.
-use mathlib.Core.Path.{_≡_}
 use mathlib.Core.Bool.{Bool, cond, _&&_}
 use mathlib.Core.List.{List, [], _∷_}
-use Prim.Native.Nat.{ℕ, zero, suc, _+_, _-_, _*_, _/_, _%_, _≤_, _<_}
-use lib.Dec.{leb, ltb, eqb}
-use lib.ListN.{getD, take, drop}
+use Prim.Native.Nat.{ℕ, zero, suc, _+_, _-_, _*_, _/_, _%_}
+use lib.Dec.{ltb, eqb}
+use lib.ListN.{getD}
 use Rattle.filter_sections.specs.declared.sections.Sections.{Sections}
 use Rattle.aec3_common.specs.Lists.{tab}
 use Rattle.aec3_common.specs.Refusal.{accepted, badSections}
@@ -37,7 +36,7 @@ runningSums from (x ∷ xs) = from ∷ runningSums (from + x) xs
 -- section 0 and the filter length.
 unfoldable pub boundaries : ℕ → ℕ → ℕ → List ℕ
 boundaries n blocks headroom =
-    cond (leb n 1) (0 ∷ blocks ∷ []) (runningSums headroom (sectionSizes n (blocks - headroom)))
+    cond (eqb n 1) (0 ∷ blocks ∷ []) (runningSums headroom (sectionSizes n (blocks - headroom)))
 
 -- a list in a table of so many places, zeros behind it
 abbrev pub padded : ℕ → List ℕ → List ℕ
@@ -49,10 +48,3 @@ sectionsAnswer n blocks samples =
     cond (sectionsOk n blocks samples)
     (record { boundaries = padded (suc maxSections) (boundaries n blocks (headroomBlocks samples)); refused = accepted })
     (record { boundaries = padded (suc maxSections) []; refused = badSections })
-
--- What is known where doubling has ended: the sizes so far stand in a table of so many places, and the sections left share the blocks left evenly.
-pub record Doubled (n blocks : ℕ) (places : ℕ) (sizes : List ℕ) (taken left : ℕ) : Type 0 where
-  pub some : taken < n
-  pub few : left ≤ blocks
-  pub begun : sizes ≡ padded places (take taken (sectionSizes n blocks))
-  pub rest : drop taken (sectionSizes n blocks) ≡ evenly (n - taken) left

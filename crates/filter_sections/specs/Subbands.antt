@@ -27,12 +27,12 @@ atMost k [] = 0
 atMost k (x ∷ xs) = cond (leb x k) 1 0 + atMost k xs
 
 -- the subband that a band maps to: as many later ones as begin at or below it; so band 0 maps to subband 0
-unfoldable pub subbandOf : ℕ → ℕ
-subbandOf band = atMost band laterBegins
+unfoldable pub bandToSubband : ℕ → ℕ
+bandToSubband band = atMost band laterBegins
 
 -- bands 0 to 31 have maximum max_l, the others max_h
-unfoldable pub bandMax : Float → Float → ℕ → Float
-bandMax maxL maxH band = cond (ltb band 32) maxL maxH
+unfoldable pub maxErle : Float → Float → ℕ → Float
+maxErle maxL maxH band = cond (ltb band 32) maxL maxH
 
 -- whether a band is summed in a subband
 abbrev pub summedIn : ℕ → ℕ → Bool
@@ -42,4 +42,4 @@ summedIn subband band = leb (subbandBegin subband) band && ltb band (subbandBegi
 unfoldable pub SummedWhereMapped : Type 0
 SummedWhereMapped =
     tab 65 (λ band. tab 6 (λ subband. summedIn subband band))
-    ≡ tab 65 (λ band. tab 6 (λ subband. ltb 0 band && eqb (subbandOf band) subband))
+    ≡ tab 65 (λ band. tab 6 (λ subband. ltb 0 band && eqb (bandToSubband band) subband))

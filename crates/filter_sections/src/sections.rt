@@ -8,7 +8,8 @@ ghost use mathlib.Core.Bool.{cond};
 ghost use mathlib.Core.List.{List};
 ghost use Prim.Native.Nat.{ℕ, _+_, _-_, _/_, _%_, _≤_, _<_, _^_};
 ghost use lib.ListN.{length, getD, take};
-ghost use Rattle.filter_sections.specs.Sections.{takes, sectionSizes, runningSums, boundaries, padded, sectionsAnswer, Doubled as Sections·Doubled};
+ghost use Rattle.filter_sections.specs.Sections.{takes, sectionSizes, runningSums, boundaries, padded, sectionsAnswer};
+ghost use Rattle.filter_sections.specs.Steps.{Doubled as Steps·Doubled};
 
 // The boundaries of up to eight sections, zeros behind them, and 0; or zeros and the number under which the settings
 // are turned away.
@@ -34,7 +35,7 @@ pub fn section_boundaries(
 {
     if sections_ok(num_sections, filter_length_blocks, delay_headroom_samples) {
         let headroom = headroom_blocks(delay_headroom_samples);
-        let boundaries = set_sections_boundaries(headroom, filter_length_blocks, num_sections);
+        let boundaries = set_sections_boundaries(num_sections, filter_length_blocks, headroom);
         Sections {
             boundaries,
             refused: ACCEPTED,
@@ -47,13 +48,13 @@ pub fn section_boundaries(
     }
 }
 
-// The boundaries for a caller that has judged the settings. Sums stay small within these bounds.
-pub fn set_sections_boundaries(headroom: usize, blocks: usize, sections: usize) -> [usize; 9]
-    requires { ⌜ (sections ≤ 8) × (blocks < 2 ^ 32) ⌝ }
-    requires { ⌜ headroom < 2 ^ 32 ⌝ }
+// The boundaries of judged settings. Sums stay small within these bounds.
+fn set_sections_boundaries(sections: usize, blocks: usize, headroom: usize) -> [usize; 9]
+    requires { ⌜ (0 < sections) × (sections ≤ 8) ⌝ }
+    requires { ⌜ (blocks < 2 ^ 32) × (headroom < 2 ^ 32) ⌝ }
     ensures { λ r. ⌜ r ≡ padded 9 (boundaries sections blocks headroom) ⌝ }
 {
-    if sections <= 1 {
+    if sections == 1 {
         [0, blocks, 0, 0, 0, 0, 0, 0, 0]
     } else {
         let sizes = define_filter_section_sizes(sections, saturating_sub(blocks, headroom));
@@ -101,7 +102,7 @@ fn section_takes(size: usize, sections: usize, blocks: usize) -> bool
 fn double_sizes(sections: usize, blocks: usize) -> Doubled
     requires { ⌜ (0 < sections) × (sections ≤ 8) ⌝ }
     requires { ⌜ blocks < 2 ^ 32 ⌝ }
-    ensures { λ r. ⌜ Sections·Doubled sections blocks 8 (r .sizes) (r .taken) (r .left) ⌝ }
+    ensures { λ r. ⌜ Steps·Doubled sections blocks 8 (r .sizes) (r .taken) (r .left) ⌝ }
 {
     let mut sizes = [0usize; 8];
     let mut taken = 0;
@@ -130,7 +131,7 @@ fn even_share(blocks: usize, sections: usize, last: bool) -> usize
 
 // The sections left share the blocks left.
 fn share_evenly(d: Doubled, sections: usize, blocks: usize) -> [usize; 8]
-    requires { ⌜ Sections·Doubled sections blocks 8 (d .sizes) (d .taken) (d .left) ⌝ }
+    requires { ⌜ Steps·Doubled sections blocks 8 (d .sizes) (d .taken) (d .left) ⌝ }
     requires { ⌜ (sections ≤ 8) × (blocks < 2 ^ 32) ⌝ }
     ensures { λ r. ⌜ r ≡ padded 8 (sectionSizes sections blocks) ⌝ }
 {

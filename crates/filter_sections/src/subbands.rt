@@ -3,7 +3,7 @@ ghost use mathlib.Core.Path.{_≡_};
 ghost use mathlib.Core.Bool.{cond};
 ghost use Prim.Native.Nat.{_≤_};
 ghost use lib.Dec.{leb};
-ghost use Rattle.filter_sections.specs.Subbands.{subbandBegin, subbandBands, subbandOf, bandMax};
+ghost use Rattle.filter_sections.specs.Subbands.{subbandBegin, subbandBands, bandToSubband, maxErle};
 
 // The bands that are summed in a subband: from begin on, below end.
 pub struct SubbandBands {
@@ -49,14 +49,14 @@ fn reaches(begin: usize, band: usize) -> usize
 
 // The subband that a band maps to.
 pub fn band_to_subband(band: usize) -> usize
-    ensures { λ r. ⌜ r ≡ subbandOf band ⌝ }
+    ensures { λ r. ⌜ r ≡ bandToSubband band ⌝ }
 {
     reaches(8, band) + reaches(16, band) + reaches(24, band) + reaches(32, band) + reaches(48, band)
 }
 
 // The greatest ERLE of a band.
 pub fn max_erle(max_l: f32, max_h: f32, band: usize) -> f32
-    ensures { λ r. ⌜ r ≡ bandMax «max_l» «max_h» band ⌝ }
+    ensures { λ r. ⌜ r ≡ maxErle «max_l» «max_h» band ⌝ }
 {
     if band < 32 { max_l } else { max_h }
 }

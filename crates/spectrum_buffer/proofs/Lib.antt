@@ -1,3 +1,3 @@
 mod Signed
 mod Refusals
-pub mod Places
+pub mod Walks

@@ -7,8 +7,7 @@ use lib.IntN.{ℤ, pos, natAbs, _+ℤ_}
 use lib.Signed.{ltZ, remZ}
 use Rattle.spectrum_buffer.specs.declared.Place.{Place}
 use Rattle.spectrum_buffer.specs.declared.Place.the-variants.{At, Refused}
-use Rattle.aec3_common.specs.Refusal.{unless, accepted, badRing, badPlace, badOffset}
-use Rattle.aec3_common.specs.Settings.{fromTo}
+use Rattle.aec3_common.specs.Refusal.{fromTo, unless, accepted, badRing, badPlace, badOffset}
 
 -- the most slots that a ring has
 abbrev pub maxSlots : ℕ
@@ -34,29 +33,36 @@ slotsOk size = fromTo 1 maxSlots size
 abbrev pub placeOk : ℕ → ℕ → Bool
 placeOk size index = ltb index size
 
+-- the largest size of an offset: the ring's
+abbrev pub maxOffset : ℕ → ℕ
+maxOffset size = size
+
 -- number 8: an offset larger in size than the ring
 abbrev pub offsetOk : ℕ → ℤ → Bool
-offsetOk size offset = leb (natAbs offset) size
+offsetOk size offset = leb (natAbs offset) (maxOffset size)
 
--- the first of 4 and 9, and of 4, 9 and 8
+-- the first of 4 and 9, and then what the later tests say
+abbrev pub placeRefusal : ℕ → ℕ → ℕ → ℕ
+placeRefusal size index later = unless (slotsOk size) badRing (unless (placeOk size index) badPlace later)
+
+-- 4, 9; and 4, 9, 8
 unfoldable pub nextRefusal : ℕ → ℕ → ℕ
-nextRefusal size index = unless (slotsOk size) badRing (unless (placeOk size index) badPlace accepted)
+nextRefusal size index = placeRefusal size index accepted
 
 unfoldable pub offsetRefusal : ℕ → ℕ → ℤ → ℕ
-offsetRefusal size index offset =
-    unless (slotsOk size) badRing (unless (placeOk size index) badPlace (unless (offsetOk size offset) badOffset accepted))
+offsetRefusal size index offset = placeRefusal size index (unless (offsetOk size offset) badOffset accepted)
 
--- a place, or the refusal that stands in its way
-abbrev pub placeUnless : ℕ → ℕ → Place
-placeUnless refusal place = cond (eqb refusal accepted) (At place) (Refused refusal)
+-- the case of an answer: number 0 has the place, any other number is a refusal
+abbrev pub placeCase : ℕ → ℕ → Place
+placeCase number place = cond (eqb number accepted) (At place) (Refused number)
 
 unfoldable pub nextAnswer : ℕ → ℕ → Place
-nextAnswer size index = placeUnless (nextRefusal size index) (nextPlace size index)
+nextAnswer size index = placeCase (nextRefusal size index) (nextPlace size index)
 
 unfoldable pub offsetAnswer : ℕ → ℕ → ℤ → Place
-offsetAnswer size index offset = placeUnless (offsetRefusal size index offset) (offsetPlace size index offset)
+offsetAnswer size index offset = placeCase (offsetRefusal size index offset) (offsetPlace size index offset)
 
--- what the two cases of an answer stand for: the number, and the place
+-- and back: the number and the place of each case
 abbrev pub placeNumber : Place → ℕ
 placeNumber (At p) = accepted
 placeNumber (Refused n) = n

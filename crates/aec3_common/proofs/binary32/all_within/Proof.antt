@@ -18,7 +18,7 @@ loop-holds : tie.Need-loop-holds Inv-loop μ-loop
 loop-holds c = tested-none _ _
 
 loop-again : tie.Need-loop-again Inv-loop μ-loop
-loop-again c = tested-more nan (c .before .before .before .loop .inv) (c .before .before .loop-test .taken) (c .in-range .ensures)
+loop-again c = tested-more nan (c .before .before .before .loop .inv) (c .before .before .loop-test .taken) (c .is-within .ensures)
 
 returns : tie.Need-returns Inv-loop μ-loop
 returns c = tested-all (c .before .loop .inv) (c .loop-test .left)

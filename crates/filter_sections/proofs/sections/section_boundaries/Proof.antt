@@ -3,7 +3,7 @@ use mathlib.Core.Path.{_∙_, sym}
 use native.Mathlib.Nat.{div-le-self}
 use native.Mathlib.Omega.{arith}
 use Rattle.aec3_common.specs.Lists.{tab}
-use Rattle.aec3_common.proofs.Ranges.{sections-in-ranges, few-sections, short-filter, short-headroom}
+use Rattle.aec3_common.proofs.Ranges.{sections-in-ranges, some-sections, few-sections, short-filter, short-headroom}
 use Rattle.filter_sections.specs.Sections.{sectionsAnswer}
 use Rattle.filter_sections.proofs.sections.section_boundaries.Statement.{statement}
 use Rattle.filter_sections.proofs.sections.section_boundaries.Tie as tie
@@ -15,8 +15,11 @@ set-sections-boundaries-requires c κs =
     let blocks = a .filter-length-blocks in
     let samples = a .delay-headroom-samples in
     let ok = sections-in-ranges n blocks samples (sym (c .before .before .sections-ok .ensures) ∙ c .before .if1 .taken) in (
-      (few-sections n blocks samples ok, omega (arith, short-filter n blocks samples ok)),
-      omega (arith, c .headroom-blocks .ensures, div-le-self samples 64, short-headroom n blocks samples ok),
+      (some-sections n blocks samples ok, few-sections n blocks samples ok),
+      (
+        omega (arith, short-filter n blocks samples ok),
+        omega (arith, c .headroom-blocks .ensures, div-le-self samples 64, short-headroom n blocks samples ok),
+      ),
     )
 
 returns : tie.Need-returns

@@ -1,5 +1,5 @@
 use borrow.Author.Needs.{needs}
-use borrow.Author.Tests.{le-leb, lt-leb}
+use borrow.Author.Tests.{eq-eqb, ne-eqb}
 use mathlib.Core.Path.{_≡_, _∙_, ap, refl}
 use mathlib.Core.List.{List}
 use Prim.Native.Nat.{ℕ, _-_, _<_}
@@ -25,15 +25,15 @@ running-sums-requires c κs =
     let a = c .before .before .before .args in
     let pre = c .before .before .before .pre in
     let all = sectionSizes (a .sections) (a .blocks - a .headroom) in (
-      (pre .1, pre .0 .0),
+      (pre .1 .1, pre .0 .1),
       λ k.
-          rw (sized c, padded-at 8 all k (rw length-doubling (pre .0 .0)))
-          (omega (arith, doubling-below 2 (a .sections) (a .blocks - a .headroom) k, pre .0 .1)),
+          rw (sized c, padded-at 8 all k (rw length-doubling (pre .0 .1)))
+          (omega (arith, doubling-below 2 (a .sections) (a .blocks - a .headroom) k, pre .1 .0)),
     )
 
 returns : tie.Need-returns
 unfolding boundaries tab
-returns c = simp (le-leb _ _ (c .if1 .taken))
+returns c = simp (eq-eqb _ _ (c .if1 .taken))
 
 returns-2 : tie.Need-returns-2
 unfolding boundaries
@@ -43,8 +43,8 @@ returns-2 c =
     c .running-sums .ensures
     ∙ ap (λ (l : List ℕ). padded 9 (runningSums (a .headroom) l))
     (ap (λ (l : List ℕ). take (a .sections) l) (sized (c .before))
-    ∙ take-padded 8 (a .sections) all (length-doubling 2 (a .sections) (a .blocks - a .headroom)) (c .before .before .before .before .pre .0 .0))
-    ∙ simp (lt-leb _ _ (c .before .before .before .if1 .left))
+    ∙ take-padded 8 (a .sections) all (length-doubling 2 (a .sections) (a .blocks - a .headroom)) (c .before .before .before .before .pre .0 .1))
+    ∙ simp (ne-eqb _ _ (c .before .before .before .if1 .left))
 
 pub set-sections-boundaries-spec : {M : Type 1} → statement M
 set-sections-boundaries-spec =

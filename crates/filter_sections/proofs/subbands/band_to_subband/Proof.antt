@@ -1,11 +1,11 @@
 use borrow.Author.Needs.{needs}
 use native.Mathlib.Omega.{arith}
-use Rattle.filter_sections.specs.Subbands.{subbandOf}
+use Rattle.filter_sections.specs.Subbands.{bandToSubband}
 use Rattle.filter_sections.proofs.subbands.band_to_subband.Statement.{statement}
 use Rattle.filter_sections.proofs.subbands.band_to_subband.Tie as tie
 
 returns : tie.Need-returns
-unfolding subbandOf
+unfolding bandToSubband
 returns c =
     omega (
       arith,

@@ -7,8 +7,8 @@ use mir.Syntax.{w64}
 use mir.Val.{toZ, ofZ}
 use mir.Facts.{toZ-ofZ}
 use Rattle.spectrum_buffer.proofs.Signed.{as-signed, quotient-fits, remainder-fits}
-use Rattle.spectrum_buffer.proofs.remainder.Statement.{statement}
-use Rattle.spectrum_buffer.proofs.remainder.Tie as tie
+use Rattle.spectrum_buffer.proofs.places.remainder.Statement.{statement}
+use Rattle.spectrum_buffer.proofs.places.remainder.Tie as tie
 
 rem-result : tie.Need-rem-result
 rem-result c = (

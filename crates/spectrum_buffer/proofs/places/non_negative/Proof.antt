@@ -9,8 +9,8 @@ use mir.Syntax.{w64}
 use mir.Val.{toZ, ofZ}
 use mir.Facts.{toZ-ofZ}
 use Rattle.spectrum_buffer.proofs.Signed.{as-signed, known-fits, known-cast, known-value, gained, cast-not-negative}
-use Rattle.spectrum_buffer.proofs.non_negative.Statement.{statement}
-use Rattle.spectrum_buffer.proofs.non_negative.Tie as tie
+use Rattle.spectrum_buffer.proofs.places.non_negative.Statement.{statement}
+use Rattle.spectrum_buffer.proofs.places.non_negative.Tie as tie
 
 below : (c : tie.Then1) → ltZ (c .before .args .x) (pos 0) ≡ true
 below c = simp (toZ-ofZ (c .before .fits .x)) at (c .if1 .taken)

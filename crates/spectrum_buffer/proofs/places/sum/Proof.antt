@@ -6,8 +6,8 @@ use mir.Syntax.{w64}
 use mir.Val.{SFits, toZ, ofZ}
 use mir.Facts.{toZ-ofZ}
 use Rattle.spectrum_buffer.proofs.Signed.{as-signed, sum-fits}
-use Rattle.spectrum_buffer.proofs.sum.Statement.{statement}
-use Rattle.spectrum_buffer.proofs.sum.Tie as tie
+use Rattle.spectrum_buffer.proofs.places.sum.Statement.{statement}
+use Rattle.spectrum_buffer.proofs.places.sum.Tie as tie
 
 -- the machine reads the two numbers back as they are
 read : (c : tie.Start) → toZ w64 (c .args .index) +ℤ toZ w64 (ofZ w64 (c .args .offset)) ≡ pos (c .args .index) +ℤ c .args .offset

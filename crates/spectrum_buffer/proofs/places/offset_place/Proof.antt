@@ -8,8 +8,8 @@ use mir.Val.{toZ, ofZ}
 use mir.Facts.{toZ-ofZ}
 use Rattle.spectrum_buffer.specs.Ring.{offsetPlace}
 use Rattle.spectrum_buffer.proofs.Signed.{remainder-below}
-use Rattle.spectrum_buffer.proofs.offset_place.Statement.{statement}
-use Rattle.spectrum_buffer.proofs.offset_place.Tie as tie
+use Rattle.spectrum_buffer.proofs.places.offset_place.Statement.{statement}
+use Rattle.spectrum_buffer.proofs.places.offset_place.Tie as tie
 
 -- what the machine reads of the sum and of the remainder
 read-sum : (c : tie.After-sum) → toZ w64 (ofZ w64 (c .sum .result)) ≡ pos (c .before .args .index) +ℤ c .before .args .offset
