@@ -1,5 +1,6 @@
 //! Writes `published.rs`, the module tree that brings the published Rust in
-//! unchanged under the paths by which its files name each other.
+//! unchanged under the paths by which its files name each other. Links the port
+//! if `PORT_LIBRARY` names the folder of its library.
 
 use std::env;
 use std::fs;
@@ -32,6 +33,26 @@ fn main() {
     let text = module_tree(&published_folder(&package), &package.join("src"));
     let out = PathBuf::from(env::var_os("OUT_DIR").unwrap());
     fs::write(out.join("published.rs"), text).expect("published.rs is written");
+    link_port(&package);
+}
+
+/// Links `libspeed.a` and sets `cfg(port)`, if `PORT_LIBRARY` is set. A relative
+/// one counts from this package.
+fn link_port(package: &Path) {
+    println!("cargo:rerun-if-env-changed=PORT_LIBRARY");
+    println!("cargo:rustc-check-cfg=cfg(port)");
+    let Some(said) = env::var_os("PORT_LIBRARY") else {
+        return;
+    };
+    let folder = package.join(said);
+    let library = folder.join("libspeed.a");
+    if !library.is_file() {
+        panic!("PORT_LIBRARY: there is no {}", library.display());
+    }
+    println!("cargo:rerun-if-changed={}", library.display());
+    println!("cargo:rustc-link-search=native={}", folder.display());
+    println!("cargo:rustc-link-lib=static=speed");
+    println!("cargo:rustc-cfg=port");
 }
 
 /// The folder that holds the published `src`. A relative `AEC3_RS` counts from

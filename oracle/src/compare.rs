@@ -2,7 +2,7 @@
 
 use crate::lines::Lines;
 use crate::run::{run, Run};
-use crate::scripts::{named, Script, NAMES};
+use crate::scripts::{named, Scripts, NAMES};
 use std::io::{self, Write};
 use std::process::{Command, Output, Stdio};
 use std::thread;
@@ -16,7 +16,7 @@ pub fn compare(replay: &str) -> bool {
     let mut failed = 0;
     for name in NAMES {
         let scripts = named(name).expect("every listed name has scripts");
-        match compare_all(name, &scripts, replay) {
+        match compare_all(name, scripts, replay) {
             Ok(found) => println!("same {name}: {found}"),
             Err(difference) => {
                 println!("failed {name}: {difference}");
@@ -29,12 +29,13 @@ pub fn compare(replay: &str) -> bool {
 }
 
 /// Compares the scripts of one name up to the first difference.
-fn compare_all(name: &str, scripts: &[Script], replay: &str) -> Result<String, String> {
+fn compare_all(name: &str, scripts: Scripts, replay: &str) -> Result<String, String> {
+    let count = scripts.len();
     let mut records = 0;
-    for (at, script) in scripts.iter().enumerate() {
+    for (at, script) in scripts.enumerate() {
         let compared = compare_one(&script.bytes, replay);
         records += compared.map_err(|difference| {
-            if scripts.len() == 1 {
+            if count == 1 {
                 difference
             } else {
                 format!(
@@ -44,7 +45,7 @@ fn compare_all(name: &str, scripts: &[Script], replay: &str) -> Result<String, S
             }
         })?;
     }
-    Ok(match scripts.len() {
+    Ok(match count {
         1 => format!("{records} records"),
         many => format!("{many} scripts, {records} records"),
     })

@@ -1,9 +1,12 @@
 //! The calls that document 01 turns away, by its numbers and in its order. The
 //! published Rust asserts or answers anything there, so it is not asked.
 
+use crate::kinds::erl;
 use std::fmt;
 use std::ops::RangeInclusive;
 
+pub const CAPTURE_CHANNELS: RangeInclusive<u32> = 1..=4;
+pub const RENDER_CHANNELS: RangeInclusive<u32> = 1..=2;
 pub const RING_SLOTS: RangeInclusive<u32> = 1..=32;
 pub const SECTIONS: RangeInclusive<u32> = 1..=8;
 pub const FILTER_LENGTH_BLOCKS: RangeInclusive<u32> = 1..=16;
@@ -11,6 +14,12 @@ pub const HEADROOM_SAMPLES: RangeInclusive<u32> = 0..=1_024;
 
 /// The samples of one block.
 pub const BLOCK_SAMPLES: u32 = 64;
+
+/// The bands of a spectrum.
+pub const BANDS: usize = 65;
+
+/// The greatest value of a spectrum, 2^100.
+pub const GREATEST_VALUE: f32 = f32::from_bits(0x7180_0000);
 
 /// The number under which a call is turned away.
 #[derive(Debug, Clone, Copy, PartialEq, Eq)]
@@ -61,4 +70,26 @@ pub fn sections(sections: u32, length_blocks: u32, headroom_samples: u32) -> Jud
         sections >= 2 && sections + headroom_blocks > length_blocks,
         3,
     )
+}
+
+/// 2: a channel count out of range. 5: flags, renders or captures not as many
+/// as the counts ask. 6: a value out of range, in a converged channel or not.
+pub fn erl_update(call: &erl::Call) -> Judged {
+    let in_range =
+        CAPTURE_CHANNELS.contains(&call.captures) && RENDER_CHANNELS.contains(&call.renders);
+    refuse_if(!in_range, 2)?;
+    let (captures, renders) = (call.captures as usize, call.renders as usize);
+    let asked = call.flags.len() == captures
+        && call.render.len() == BANDS * renders
+        && call.capture.len() == BANDS * captures;
+    refuse_if(!asked, 5)?;
+    refuse_if(
+        !in_value_range(&call.render) || !in_value_range(&call.capture),
+        6,
+    )
+}
+
+/// Each value is a number from 0, of either sign, to 2^100.
+fn in_value_range(values: &[f32]) -> bool {
+    values.iter().all(|v| (0.0..=GREATEST_VALUE).contains(v))
 }

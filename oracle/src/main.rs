@@ -8,6 +8,8 @@ mod lines;
 mod record;
 mod run;
 mod scripts;
+#[cfg(port)]
+mod speed;
 #[cfg(test)]
 mod tests;
 
@@ -24,7 +26,8 @@ const USAGE: &str = "usage:
   oracle run < script > lines
   oracle generate NAME [NUMBER] > script
   oracle compare [REPLAY]
-  oracle samples DIR";
+  oracle samples DIR
+  oracle speed";
 
 const DEFAULT_REPLAY: &str = "target/bin/replay";
 
@@ -38,6 +41,7 @@ fn main() -> ExitCode {
         ["compare"] => compare_with(DEFAULT_REPLAY),
         ["compare", replay] => compare_with(replay),
         ["samples", folder] => write_samples(Path::new(folder)),
+        ["speed"] => speed(),
         _ => Err(USAGE.to_string()),
     };
     match done {
@@ -57,19 +61,17 @@ fn run_script() -> Result<ExitCode, String> {
 
 /// Prints one script of a name; the number, from 1, chooses among several.
 fn generate(name: &str, number: Option<&str>) -> Result<ExitCode, String> {
-    let scripts = scripts::named(name)
+    let mut scripts = scripts::named(name)
         .ok_or_else(|| format!("no scripts named {name}; there are {:?}", scripts::NAMES))?;
+    let count = scripts.len();
     let chosen = match number {
         Some(text) => text.parse().unwrap_or(0),
-        None if scripts.len() == 1 => 1,
+        None if count == 1 => 1,
         None => 0,
     };
-    match scripts.get(usize::wrapping_sub(chosen, 1)) {
+    match scripts.nth(usize::wrapping_sub(chosen, 1)) {
         Some(script) => print_bytes(&script.bytes),
-        None => Err(format!(
-            "{name} has scripts 1 to {}: say which",
-            scripts.len()
-        )),
+        None => Err(format!("{name} has scripts 1 to {count}: say which")),
     }
 }
 
@@ -89,6 +91,19 @@ fn write_samples(folder: &Path) -> Result<ExitCode, String> {
     fs::write(folder.join("stdin"), &script).map_err(plain)?;
     fs::write(folder.join("stdout"), lines.as_bytes()).map_err(plain)?;
     Ok(ExitCode::SUCCESS)
+}
+
+#[cfg(port)]
+fn speed() -> Result<ExitCode, String> {
+    speed::speed().map(|()| ExitCode::SUCCESS)
+}
+
+#[cfg(not(port))]
+fn speed() -> Result<ExitCode, String> {
+    Err(
+        "built without the port: set PORT_LIBRARY to the folder of libspeed.a and build"
+            .to_string(),
+    )
 }
 
 fn print_bytes(bytes: &[u8]) -> Result<ExitCode, String> {

@@ -48,6 +48,20 @@ impl<'a> Fields<'a> {
         Ok(f32::from_bits(self.u32()?))
     }
 
+    /// A list of flags, one byte each.
+    pub fn flags(&mut self, count: u32) -> Result<Vec<bool>, Malformed> {
+        let bytes = take(&mut self.rest, count as usize)?;
+        bytes.iter().map(|&byte| flag(byte)).collect()
+    }
+
+    /// A list of binary32 numbers.
+    pub fn floats(&mut self, count: u32) -> Result<Vec<f32>, Malformed> {
+        let size = (count as usize).checked_mul(4).ok_or(Malformed)?;
+        let (words, _) = take(&mut self.rest, size)?.as_chunks();
+        let bits = words.iter().map(|&word| u32::from_le_bytes(word));
+        Ok(bits.map(f32::from_bits).collect())
+    }
+
     /// Finds the body at its end: it is not longer than its fields ask.
     pub fn end(self) -> Result<(), Malformed> {
         if self.rest.is_empty() {
@@ -55,6 +69,14 @@ impl<'a> Fields<'a> {
         } else {
             Err(Malformed)
         }
+    }
+}
+
+fn flag(byte: u8) -> Result<bool, Malformed> {
+    match byte {
+        0 => Ok(false),
+        1 => Ok(true),
+        _ => Err(Malformed),
     }
 }
 

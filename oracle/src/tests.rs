@@ -1,6 +1,8 @@
 //! Values that document 01 and readings of the source give, asked of the
 //! published Rust itself.
 
+mod erl;
+
 use crate::audio_processing::aec3::signal_dependent_erle_estimator::{
     peek_section_boundaries, peek_section_sizes, peek_subband_map, peek_subband_maxima,
 };

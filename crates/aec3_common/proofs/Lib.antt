@@ -3,4 +3,8 @@ pub mod Tables
 pub mod Every
 pub mod Constants
 pub mod Floats
+pub mod Holds
+pub mod Loops
+pub mod Bands
+pub mod Sums
 pub mod Ranges

@@ -1,8 +1,10 @@
 // What every estimator shares: the bands, the refusal numbers, binary32 helpers, the settings and log2.
 pub mod binary32;
+pub mod counts;
 pub mod log2;
 pub mod refusal;
 pub mod settings;
+pub mod spectra;
 
 pub use binary32::clamp;
 pub use binary32::larger;

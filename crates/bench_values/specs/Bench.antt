@@ -1,15 +1,16 @@
--- The starred bench values of what stands so far (all but the ERL value): what document 01 gives, beside what the
--- definitions give.
+-- The starred bench values: what document 01 gives, beside what the definitions give.
 use mathlib.Core.Path.{_≡_}
 use mathlib.Core.Bool.{cond}
 use mathlib.Core.List.{List, [], _∷_, map}
-use Prim.Native.Nat.{ℕ, suc}
+use Prim.Native.Nat.{ℕ, suc, _^_}
 use lib.Dec.{eqb}
 use lib.IntN.{ℤ, pos, negsuc}
 use lib.Ieee.{binary32, ofBits, toUnsigned}
 use lib.ListN.{take}
+use Rattle.aec3_common.specs.Binary32.{energyThreshold}
 use Rattle.aec3_common.specs.Log2.{rounded, log2Answer, log2Number, log2Bits}
 use Rattle.spectrum_buffer.specs.Ring.{offsetAnswer, placeNumber, placeValue}
+use Rattle.erl_estimator.specs.Erl.{afterBlock}
 use Rattle.filter_sections.specs.Sections.{sectionsAnswer}
 
 -- A row: the number of the answer, 0 where the call is accepted, and the values behind it; as given and as defined.
@@ -39,6 +40,12 @@ sectionsRow given n blocks =
     let a = sectionsAnswer n blocks 0 in
     record { given = given; defined = a .refused ∷ cond (eqb (a .refused) 0) (take (suc n) (a .boundaries)) [] }
 
+-- an ERL one block later, by a render of 2^26 and a capture in that ratio, as a whole number
+abbrev pub erlRow : List ℕ → ℕ → ℕ → Row
+erlRow given erl capture =
+    let f = afterBlock energyThreshold (rounded (2 ^ 26)) (rounded capture) (record { erl = rounded erl; hold = pos 0 }) in
+    record { given = given; defined = 0 ∷ toUnsigned 32 (f .erl) ∷ [] }
+
 unfoldable pub table : List Row
 table =
     log2Row (0 ∷ 0x3d6a_b800 ∷ []) 0x3f80_0000
@@ -50,6 +57,7 @@ table =
     ∷ ringRow (8 ∷ []) 5 0 (pos 6)
     ∷ sectionsRow (0 ∷ 0 ∷ 2 ∷ 6 ∷ 13 ∷ []) 3 13
     ∷ sectionsRow (3 ∷ []) 3 2
+    ∷ erlRow (0 ∷ 900 ∷ []) 1000 0
     ∷ []
 
 -- Claim: in every row of the table the definitions give what document 01 gives.

@@ -4,6 +4,7 @@ use aec3_common::fast_approx_log2f;
 use aec3_common::log2::rounded;
 use encoding::bits_of;
 use encoding::put_bytes;
+use erl_estimator::ErlEstimator;
 use filter_sections::section_boundaries;
 use spectrum_buffer::Place;
 use spectrum_buffer::offset_index;
@@ -112,6 +113,22 @@ fn tell_sections(out: &mut [u8], at: usize) -> usize {
     )
 }
 
+// The first inner band after one block of render 2^26 and capture 0.
+fn erl_moves_to(erl: f32) -> bool {
+    let answer = ErlEstimator::new(0).update(1, 1, &[true], &[67_108_864.0; 65], &[0.0; 65]);
+    let state = answer.state;
+    (answer.refused == 0) & (state.erl[1] == erl)
+}
+
+fn tell_erl(out: &mut [u8], at: usize) -> usize {
+    tell(
+        out,
+        at,
+        b"ERL 1,000 with ratio 0 moves to 900",
+        erl_moves_to(900.0),
+    )
+}
+
 fn write_out(text: &[u8], n: usize) {
     if n <= text.len() {
         io::write_all(1, &text[0..n]);
@@ -123,5 +140,6 @@ fn main() {
     let at = tell_log2(&mut out, 0);
     let at = tell_ring(&mut out, at);
     let at = tell_sections(&mut out, at);
+    let at = tell_erl(&mut out, at);
     write_out(&out, at);
 }

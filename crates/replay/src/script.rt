@@ -1,8 +1,10 @@
 // The script's records, one after the other, and the text that they give.
 use crate::kinds::replay_record;
-use crate::line::Turn;
 use crate::line::bad;
 use crate::line::ended;
+use crate::standing::Standing;
+use crate::standing::Step;
+use crate::standing::unchanged;
 use encoding::word_at;
 use libc::STDIN_FILENO;
 use libc::STDOUT_FILENO;
@@ -12,24 +14,24 @@ use libc::STDOUT_FILENO;
 const FULL: usize = 32768;
 
 // Replays the record that stands next: its length, its bytes, and what they ask.
-pub fn replay_next(record: &mut [u8], out: &mut [u8], at: usize) -> Turn {
+pub fn replay_next(standing: Standing, record: &mut [u8], out: &mut [u8], at: usize) -> Step {
     let mut head = [0u8; 4];
     let got = io::read_full(STDIN_FILENO, &mut head);
     if got == 0 {
-        return ended(at);
+        return unchanged(standing, ended(at));
     }
     let n = word_at(&head, 0) as usize;
     if (got < 4) | (n < 2) {
-        return bad(out, at);
+        return unchanged(standing, bad(out, at));
     }
     if record.len() < n {
-        return bad(out, at);
+        return unchanged(standing, bad(out, at));
     }
     let read = io::read_full(STDIN_FILENO, &mut record[0..n]);
     if read < n {
-        return bad(out, at);
+        return unchanged(standing, bad(out, at));
     }
-    replay_record(&record[0..n], out, at)
+    replay_record(&record[0..n], standing, out, at)
 }
 
 // Writes the text before a place. A failure can be told nowhere.

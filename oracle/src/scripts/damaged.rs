@@ -2,12 +2,19 @@
 //! so that a reader that does not stop is noticed.
 
 use super::random::Random;
-use super::Script;
+use super::{erl, Script};
+use crate::kinds::erl::{RESET, START};
 use crate::kinds::leaves::{LOG2, RING, SECTIONS};
 use crate::record::MAX_LENGTH;
 
-/// Each kind with the length of its body.
-const BODIES: [(u16, usize); 3] = [(LOG2, 4), (RING, 12), (SECTIONS, 12)];
+/// Each kind whose bodies have one length, with that length.
+const BODIES: [(u16, usize); 5] = [
+    (LOG2, 4),
+    (RING, 12),
+    (SECTIONS, 12),
+    (START, 4),
+    (RESET, 0),
+];
 
 pub fn scripts() -> Vec<Script> {
     let mut all = vec![Script::default()];
@@ -17,6 +24,7 @@ pub fn scripts() -> Vec<Script> {
     all.extend(short_and_long_records());
     all.extend(huge_lengths());
     all.extend(shifted());
+    all.extend(erl::damaged::scripts());
     all
 }
 
@@ -58,8 +66,8 @@ fn changed() -> Vec<Script> {
 
 fn unknown_kinds() -> Vec<Script> {
     let kinds = [
-        0x0000, 0x0001, 0x0002, 0x0003, 0x0100, 0x0104, 0x010F, 0x0201, 0x0301, 0x1101, 0x8101,
-        0xFFFF,
+        0x0000, 0x0001, 0x0002, 0x0003, 0x0100, 0x0104, 0x010F, 0x0113, 0x0201, 0x0301, 0x1101,
+        0x8101, 0xFFFF,
     ];
     let mut scripts = Vec::new();
     for kind in kinds {
@@ -111,7 +119,7 @@ fn huge_lengths() -> Vec<Script> {
 fn shifted() -> Vec<Script> {
     let mut scripts = Vec::new();
     for (kind, right) in BODIES {
-        for size in [right - 1, right + 1] {
+        for size in (right.saturating_sub(1)..=right + 1).filter(|&size| size != right) {
             scripts.push(between(2 + right as u32, kind, &vec![1; size]));
         }
     }

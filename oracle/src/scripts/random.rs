@@ -21,4 +21,18 @@ impl Random {
     pub fn below(&mut self, bound: u32) -> u32 {
         self.u32() % bound
     }
+
+    /// A number from 0 to below 1.
+    pub fn unit(&mut self) -> f32 {
+        (self.u32() >> 8) as f32 / 16_777_216.0
+    }
+
+    /// A number from 2^exponent, a normal binary32 number, to below twice that.
+    pub fn octave(&mut self, exponent: i32) -> f32 {
+        f32::from_bits(((exponent + 127) as u32) << 23 | self.u32() >> 9)
+    }
+
+    pub fn one_of<T: Copy>(&mut self, choices: &[T]) -> T {
+        choices[self.below(choices.len() as u32) as usize]
+    }
 }

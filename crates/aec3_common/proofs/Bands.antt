@@ -1,0 +1,61 @@
+-- Parts of spectra, and bands that copy others.
+use mathlib.Core.Path.{_≡_, refl, sym, ap, _∙_}
+use mathlib.Core.Bool.{Bool, true, false, cond, _&&_}
+use mathlib.Core.List.{List}
+use Prim.Native.Nat.{ℕ, _+_, _-_, _*_, _≤_, _<_}
+use native.Mathlib.Omega.{arith}
+use borrow.Author.Tests.{eqb-true, eqb-false, lt-ltb, ltb-true}
+use lib.Dec.{ltb, eqb}
+use lib.Ieee.{Float, nan}
+use lib.ListN.{length, getD, take, drop, set, length-set, length-drop}
+use lib.Seq.{getD-set-same, getD-set-other, length-take-le}
+use Rattle.aec3_common.specs.Spectra.{part, innerBand, shownBand, endsCopied}
+use Rattle.aec3_common.proofs.Choices.{and-right}
+
+-- the part that code lends, from ch * 65 to 65 further on
+pub lent-part : (spectra : List Float) (ch : ℕ) → take (ch * 65 + 65 - ch * 65) (drop (ch * 65) spectra) ≡ part spectra ch
+unfolding part
+lent-part spectra ch =
+    let size : ch * 65 + 65 - ch * 65 ≡ 65 = omega arith in
+    ap (λ (n : ℕ). take n (drop (ch * 65) spectra)) size
+
+pub part-length : (spectra : List Float) (ch : ℕ) → ch * 65 + 65 ≤ length spectra → length (part spectra ch) ≡ 65
+unfolding part
+part-length spectra ch h = length-take-le 65 (drop (ch * 65) spectra) (omega (arith, length-drop (ch * 65) spectra))
+
+-- a band that is shown is an inner band
+pub shown-inner : (k : ℕ) → k < 65 → innerBand (shownBand k) ≡ true
+shown-inner k h = go (eqb k 0) refl (eqb k 64) refl
+  where
+    go : (s : Bool) → eqb k 0 ≡ s → (t : Bool) → eqb k 64 ≡ t → innerBand (cond s 1 (cond t 63 k)) ≡ true
+    go true e t f = refl
+    go false e true f = refl
+    go false e false f =
+        let some : 0 < k = omega (arith, eqb-false k 0 e) in
+        let few : k < 64 = omega (arith, eqb-false k 64 f) in
+        simp (lt-ltb 0 k some, lt-ltb k 64 few)
+
+-- after the copying, each band shows its band's value
+pub ends-shown : (s : List Float) (k : ℕ) → length s ≡ 65 → k < 65 → getD (endsCopied s) k nan ≡ getD s (shownBand k) nan
+unfolding endsCopied
+ends-shown s k long h = go (eqb k 0) refl (eqb k 64) refl
+  where
+    go :
+        (a : Bool) → eqb k 0 ≡ a → (b : Bool) → eqb k 64 ≡ b
+        → getD (set (set s 0 (getD s 1 nan)) 64 (getD s 63 nan)) k nan ≡ getD s (cond a 1 (cond b 63 k)) nan
+    go true e b f =
+        let zero : k ≡ 0 = eqb-true k 0 e in
+        rw zero
+        (getD-set-other (set s 0 (getD s 1 nan)) 64 0 (getD s 63 nan) nan (λ q. omega arith)
+        ∙ getD-set-same s 0 (getD s 1 nan) nan (omega arith))
+    go false e true f =
+        let last : k ≡ 64 = eqb-true k 64 f in
+        rw last (getD-set-same (set s 0 (getD s 1 nan)) 64 (getD s 63 nan) nan (omega (arith, length-set s 0 (getD s 1 nan))))
+    go false e false f =
+        getD-set-other (set s 0 (getD s 1 nan)) 64 k (getD s 63 nan) nan (eqb-false k 64 f)
+        ∙ getD-set-other s 0 k (getD s 1 nan) nan (eqb-false k 0 e)
+
+pub shown-below : (k : ℕ) → k < 65 → shownBand k < 65
+shown-below k h =
+    let few : ltb (shownBand k) 64 ≡ true = and-right (ltb 0 (shownBand k)) (ltb (shownBand k) 64) (shown-inner k h) in
+    omega (arith, ltb-true (shownBand k) 64 few)

@@ -1,0 +1,4 @@
+pub mod Constants
+mod Judged
+mod Steps
+mod Updates

@@ -1,0 +1,164 @@
+-- Echo return loss: the ERL of each band, and the time-domain ERL.
+use mathlib.Core.Bool.{Bool, cond, _&&_}
+use mathlib.Core.List.{List, [], _∷_, map}
+use Prim.Native.Nat.{ℕ, suc, _-_, _*_}
+use lib.Dec.{ltb, eqb}
+use lib.IntN.{ℤ, pos}
+use lib.Signed.{leZ}
+use lib.Ieee.{Float, nan, binary32, ofBits, mul, div, lt}
+use lib.ListN.{length, getD}
+use Rattle.aec3_common.specs.Lists.{tab}
+use Rattle.aec3_common.specs.Binary32.{energyThreshold, larger, smaller, moved, valuesOk}
+use Rattle.aec3_common.specs.Counts.{oneMore, fallen}
+use Rattle.aec3_common.specs.Refusal.{unless, accepted, badChannelCount, badLength, badValue}
+use Rattle.aec3_common.specs.Settings.{captureChannelsOk, renderChannelsOk}
+use Rattle.aec3_common.specs.Spectra.{bandOf, innerBand, shownBand, standing, sum, greatestFrom}
+use Rattle.erl_estimator.specs.declared.figure.Figure.{Figure}
+use Rattle.erl_estimator.specs.declared.ErlEstimator.{ErlEstimator}
+use Rattle.erl_estimator.specs.declared.ErlUpdate.{ErlUpdate}
+
+-- 0.01 and 1,000, between which an ERL lies
+abbrev pub minErl : Float
+minErl = ofBits binary32 0x3c23_d70a
+
+abbrev pub maxErl : Float
+maxErl = ofBits binary32 0x447a_0000
+
+-- 0.1, the share of the difference by which an ERL moves
+abbrev pub share : Float
+share = ofBits binary32 0x3dcc_cccd
+
+abbrev pub two32 : Float
+two32 = ofBits binary32 0x4000_0000
+
+-- T times 65, rounded to 2,860,979,456: the threshold of the time-domain value
+abbrev pub timeDomainThreshold : Float
+timeDomainThreshold = ofBits binary32 0x4f2a_8715
+
+-- ---- one figure: an ERL and its hold
+
+-- whether render is above the threshold and capture/render below the ERL
+abbrev pub learns : Float → Float → Float → Float → Bool
+learns threshold render capture erl = lt threshold render && lt (div binary32 capture render) erl
+
+-- then the ERL moves by 0.1 of the difference, not below 0.01, and its hold becomes 1,000
+unfoldable pub learnt : Float → Float → Float → Figure → Figure
+learnt threshold render capture f =
+    cond (learns threshold render capture (f .erl))
+    (record { erl = larger (moved (f .erl) (div binary32 capture render) share) minErl; hold = pos 1000 })
+    f
+
+-- the ERL beside a hold: at 0 or less it doubles, at most 1,000
+unfoldable pub doubled : ℤ → Float → Float
+doubled hold erl = cond (leZ hold (pos 0)) (smaller (mul binary32 two32 erl) maxErl) erl
+
+-- the hold falls by 1, and the ERL doubles by it
+unfoldable pub rested : Figure → Figure
+rested f = record { erl = doubled (fallen (f .hold)) (f .erl); hold = fallen (f .hold) }
+
+-- a figure one block later
+unfoldable pub afterBlock : Float → Float → Float → Figure → Figure
+afterBlock threshold render capture f = rested (learnt threshold render capture f)
+
+-- ---- spectra reduced to their per-band greatest over some channels
+
+abbrev pub greatestOver : List Float → List ℕ → ℕ → Float
+greatestOver spectra [] k = nan
+greatestOver spectra (first ∷ others) k =
+    greatestFrom (bandOf spectra first k) (map (λ ch. bandOf spectra ch k) others)
+
+unfoldable pub reduced : List Float → List ℕ → List Float
+reduced spectra channels = tab 65 (greatestOver spectra channels)
+
+-- ---- the whole estimator
+
+-- a start gives 1,000 and holds 0
+unfoldable pub started : ℕ → ErlEstimator
+started startup =
+    record {
+      erl = tab 65 (λ k. maxErl);
+      «hold_counters» = tab 63 (λ k. pos 0);
+      «erl_time_domain» = maxErl;
+      «hold_counter_time_domain» = pos 0;
+      «startup_phase_length_blocks» = startup;
+      «blocks_since_reset» = 0;
+    }
+
+-- the state with another block count, the rest as it was
+abbrev pub withCount : ErlEstimator → ℕ → ErlEstimator
+withCount s n =
+    record {
+      erl = s .erl;
+      «hold_counters» = s .«hold_counters»;
+      «erl_time_domain» = s .«erl_time_domain»;
+      «hold_counter_time_domain» = s .«hold_counter_time_domain»;
+      «startup_phase_length_blocks» = s .«startup_phase_length_blocks»;
+      «blocks_since_reset» = n;
+    }
+
+-- a reset clears the block count only
+unfoldable pub resetted : ErlEstimator → ErlEstimator
+resetted s = withCount s 0
+
+-- the figure of a band of 1 to 63, one block later: the ERL stands at the band's place, the hold one place before
+unfoldable pub bandAfter : List Float → List Float → List Float → List ℤ → ℕ → Figure
+bandAfter render capture erl holds k =
+    afterBlock energyThreshold (getD render k nan) (getD capture k nan)
+    (record { erl = getD erl k nan; hold = getD holds (k - 1) (pos 0) })
+
+-- the ERL of a band of 1 to 63 one block later; that of 0 and 64 as it was
+abbrev pub innerErl : List Float → List Float → List Float → List ℤ → ℕ → Float
+innerErl render capture erl holds k =
+    cond (innerBand k) (bandAfter render capture erl holds k .erl) (getD erl k nan)
+
+-- every figure one block later, by the reduced spectra
+unfoldable pub learntFrom : ErlEstimator → List Float → List Float → ErlEstimator
+learntFrom s render capture =
+    let band : ℕ → Figure = bandAfter render capture (s .erl) (s .«hold_counters») in
+    let time : Figure =
+    afterBlock timeDomainThreshold (sum render) (sum capture)
+    (record { erl = s .«erl_time_domain»; hold = s .«hold_counter_time_domain» }) in
+    record {
+      erl = tab 65 (λ k. band (shownBand k) .erl);
+      «hold_counters» = tab 63 (λ k. band (suc k) .hold);
+      «erl_time_domain» = time .erl;
+      «hold_counter_time_domain» = time .hold;
+      «startup_phase_length_blocks» = s .«startup_phase_length_blocks»;
+      «blocks_since_reset» = s .«blocks_since_reset»;
+    }
+
+-- Without a converged channel, or below the startup count, nothing moves. Otherwise converged captures and all renders are
+-- reduced and every figure goes one block on.
+unfoldable pub heard : ErlEstimator → List ℕ → ℕ → List Float → List Float → ErlEstimator
+heard s [] renders render capture = s
+heard s (first ∷ others) renders render capture =
+    cond (ltb (s .«blocks_since_reset») (s .«startup_phase_length_blocks»)) s
+    (learntFrom s (reduced render (tab renders (λ ch. ch))) (reduced capture (first ∷ others)))
+
+-- an accepted update counts one block first
+unfoldable pub updated : ErlEstimator → ℕ → List Bool → List Float → List Float → ErlEstimator
+updated s renders converged render capture =
+    heard (withCount s (oneMore (s .«blocks_since_reset»))) (standing 0 converged) renders render capture
+
+-- ---- calls turned away
+
+abbrev pub channelsOk : ℕ → ℕ → Bool
+channelsOk captures renders = captureChannelsOk captures && renderChannelsOk renders
+
+abbrev pub lengthsOk : ℕ → ℕ → List Bool → List Float → List Float → Bool
+lengthsOk captures renders converged render capture =
+    eqb (length converged) captures && eqb (length render) (renders * 65) && eqb (length capture) (captures * 65)
+
+-- the first of 2, 5 and 6
+unfoldable pub updateRefusal : ℕ → ℕ → List Bool → List Float → List Float → ℕ
+updateRefusal captures renders converged render capture =
+    unless (channelsOk captures renders) badChannelCount
+    (unless (lengthsOk captures renders converged render capture) badLength
+    (unless (valuesOk render && valuesOk capture) badValue
+    accepted))
+
+-- The answer: the next state and 0, or the state as it was and the refusal.
+unfoldable pub updateAnswer : ErlEstimator → ℕ → ℕ → List Bool → List Float → List Float → ErlUpdate
+updateAnswer s captures renders converged render capture =
+    let n = updateRefusal captures renders converged render capture in
+    record { state = cond (eqb n accepted) (updated s renders converged render capture) s; refused = n }

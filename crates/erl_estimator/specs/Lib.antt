@@ -1,0 +1,3 @@
+pub mod Erl
+pub mod Constants
+pub mod First

@@ -1,0 +1,81 @@
+// One figure: an ERL and its hold.
+use aec3_common::counts::fallen;
+use aec3_common::larger;
+use aec3_common::moved;
+use aec3_common::smaller;
+use aec3_common::spectra::sum;
+ghost use mathlib.Core.Path.{_≡_};
+ghost use Rattle.aec3_common.specs.Spectra.{sum as Spectra·sum};
+ghost use Rattle.erl_estimator.specs.Erl.{timeDomainThreshold, learns as Erl·learns, learnt as Erl·learnt, doubled as Erl·doubled, rested as Erl·rested, afterBlock};
+
+const MIN_ERL: f32 = 0.01;
+
+const MAX_ERL: f32 = 1000.0;
+
+const HOLD_BLOCKS: i32 = 1000;
+
+// T times 65, rounded.
+const TIME_DOMAIN_THRESHOLD: f32 = 2_860_979_456.0;
+
+pub struct Figure {
+    pub erl: f32,
+    pub hold: i32,
+}
+
+fn learns(threshold: f32, render: f32, capture: f32, erl: f32) -> bool
+    ensures { λ r. ⌜ r ≡ Erl·learns threshold render capture erl ⌝ }
+{
+    (render > threshold) & (capture / render < erl)
+}
+
+fn learnt(threshold: f32, render: f32, capture: f32, f: Figure) -> Figure
+    ensures { λ r. ⌜ r ≡ Erl·learnt threshold render capture f ⌝ }
+{
+    if learns(threshold, render, capture, f.erl) {
+        Figure {
+            erl: larger(moved(f.erl, capture / render, 0.1), MIN_ERL),
+            hold: HOLD_BLOCKS,
+        }
+    } else {
+        f
+    }
+}
+
+fn doubled(hold: i32, erl: f32) -> f32
+    ensures { λ r. ⌜ r ≡ Erl·doubled hold erl ⌝ }
+{
+    if hold <= 0 {
+        smaller(2.0 * erl, MAX_ERL)
+    } else {
+        erl
+    }
+}
+
+fn rested(f: Figure) -> Figure
+    ensures { λ r. ⌜ r ≡ Erl·rested f ⌝ }
+{
+    let hold = fallen(f.hold);
+    Figure {
+        erl: doubled(hold, f.erl),
+        hold,
+    }
+}
+
+// A figure one block later.
+pub fn after_block(threshold: f32, render: f32, capture: f32, f: Figure) -> Figure
+    ensures { λ r. ⌜ r ≡ afterBlock threshold render capture f ⌝ }
+{
+    rested(learnt(threshold, render, capture, f))
+}
+
+// The time-domain figure one block later. The captures are added up only where their sum is looked at.
+pub fn time_domain_after(f: Figure, render: &[f32], capture: &[f32]) -> Figure
+    ensures { λ r. ⌜ r ≡ afterBlock timeDomainThreshold (Spectra·sum (now (render .entry))) (Spectra·sum (now (capture .entry))) f ⌝ }
+{
+    let render_sum = sum(render);
+    if render_sum > TIME_DOMAIN_THRESHOLD {
+        after_block(TIME_DOMAIN_THRESHOLD, render_sum, sum(capture), f)
+    } else {
+        rested(f)
+    }
+}

@@ -1,0 +1,119 @@
+//! Kinds 0110 to 0112: the ERL estimator.
+
+use crate::audio_processing::aec3::erl_estimator::ErlEstimator;
+use crate::judge::{self, Judged};
+use crate::lines::{fields, Answer, Hex, Lines};
+use crate::record::{Fields, Malformed, Record};
+
+pub const START: u16 = 0x0110;
+pub const UPDATE: u16 = 0x0111;
+pub const RESET: u16 = 0x0112;
+
+/// The estimator that stands, if one does.
+#[derive(Default)]
+pub struct Erl {
+    estimator: Option<ErlEstimator>,
+}
+
+impl Erl {
+    pub fn answer(&mut self, record: &Record<'_>, lines: &mut Lines) -> Result<(), Malformed> {
+        let body = Fields::of(record);
+        match record.kind {
+            START => self.start(body, lines)?,
+            UPDATE => self.update(body, lines)?,
+            RESET => self.reset(body, lines)?,
+            _ => return Err(Malformed),
+        }
+        self.figures(lines);
+        Ok(())
+    }
+
+    fn start(&mut self, mut body: Fields<'_>, lines: &mut Lines) -> Result<(), Malformed> {
+        let startup = body.u32()?;
+        body.end()?;
+        self.estimator = Some(ErlEstimator::new(startup as usize));
+        lines.push(format_args!("erl start"));
+        Ok(())
+    }
+
+    fn update(&mut self, body: Fields<'_>, lines: &mut Lines) -> Result<(), Malformed> {
+        let call = Call::read(body)?;
+        match &mut self.estimator {
+            Some(estimator) => {
+                let done = call.update(estimator).map(|()| "ok");
+                lines.push(format_args!("erl {}", Answer(done)));
+            }
+            None => lines.push(format_args!("erl none")),
+        }
+        Ok(())
+    }
+
+    fn reset(&mut self, body: Fields<'_>, lines: &mut Lines) -> Result<(), Malformed> {
+        body.end()?;
+        match &mut self.estimator {
+            Some(estimator) => {
+                estimator.reset();
+                lines.push(format_args!("erl reset"));
+            }
+            None => lines.push(format_args!("erl none")),
+        }
+        Ok(())
+    }
+
+    /// The figures of the estimator that stands.
+    fn figures(&self, lines: &mut Lines) {
+        if let Some(estimator) = &self.estimator {
+            let time_domain = estimator.erl_time_domain();
+            let figures = estimator.erl().iter().copied().chain([time_domain]);
+            lines.push(format_args!("erl {}", fields(figures.map(Hex))));
+        }
+    }
+}
+
+/// One update: the counts that it says, and what it lends.
+#[derive(Clone)]
+pub struct Call {
+    pub captures: u32,
+    pub renders: u32,
+    pub flags: Vec<bool>,
+    pub render: Vec<f32>,
+    pub capture: Vec<f32>,
+}
+
+impl Call {
+    fn read(mut body: Fields<'_>) -> Result<Self, Malformed> {
+        let (captures, renders) = (body.u32()?, body.u32()?);
+        let (flags, render, capture) = (body.u32()?, body.u32()?, body.u32()?);
+        let call = Self {
+            captures,
+            renders,
+            flags: body.flags(flags)?,
+            render: body.floats(render)?,
+            capture: body.floats(capture)?,
+        };
+        body.end()?;
+        Ok(call)
+    }
+
+    /// The body that `read` reads.
+    pub fn body(&self) -> Vec<u8> {
+        let lengths = [self.flags.len(), self.render.len(), self.capture.len()];
+        let mut body = Vec::new();
+        body.extend(self.captures.to_le_bytes());
+        body.extend(self.renders.to_le_bytes());
+        body.extend(lengths.iter().flat_map(|&l| (l as u32).to_le_bytes()));
+        body.extend(self.flags.iter().map(|&flag| flag as u8));
+        let values = self.render.iter().chain(&self.capture);
+        body.extend(values.flat_map(|value| value.to_bits().to_le_bytes()));
+        body
+    }
+
+    /// Updates an estimator, unless the call is turned away.
+    pub fn update(&self, estimator: &mut ErlEstimator) -> Judged {
+        judge::erl_update(self)?;
+        let (render, _) = self.render.as_chunks();
+        let (capture, _) = self.capture.as_chunks();
+        estimator.update(&self.flags, render, capture);
+        Ok(())
+    }
+}
