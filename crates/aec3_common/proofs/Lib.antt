@@ -8,3 +8,4 @@ pub mod Loops
 pub mod Bands
 pub mod Sums
 pub mod Ranges
+pub mod Rounding

@@ -1,4 +1,5 @@
 pub mod Constants
 mod Judged
+pub mod Range
 mod Steps
 mod Updates

@@ -1,0 +1,36 @@
+-- The range that every figure keeps, over lists of calls.
+use mathlib.Core.Path.{_≡_}
+use mathlib.Core.Bool.{Bool, true, _&&_}
+use mathlib.Core.List.{List, [], _∷_}
+use Prim.Native.Nat.{ℕ, _<_}
+use lib.Ieee.{Float, nan, le}
+use lib.ListN.{getD}
+use Rattle.erl_estimator.specs.declared.ErlEstimator.{ErlEstimator}
+use Rattle.erl_estimator.specs.Erl.{minErl, maxErl, started, resetted, updateAnswer}
+
+-- a call: an update with its counts, flags, renders and captures, whether it is accepted or not; or a reset
+pub data Call : Type 0 where
+  update : ℕ → ℕ → List Bool → List Float → List Float → Call
+  reset : Call
+
+-- the state that a call leaves; a refused update leaves the one it got
+unfoldable pub after : ErlEstimator → Call → ErlEstimator
+after s (update captures renders converged render capture) = updateAnswer s captures renders converged render capture .state
+after s reset = resetted s
+
+-- each call takes up the state that the last one left
+unfoldable pub run : ErlEstimator → List Call → ErlEstimator
+run s [] = s
+run s (c ∷ cs) = run (after s c) cs
+
+-- a number, not below 0.01 nor above 1,000; a NaN is neither
+abbrev pub inRange : Float → Bool
+inRange x = le minErl x && le x maxErl
+
+-- Claim: from any start, after any list of calls, the ERL of each of the 65 bands and the time-domain ERL are numbers from
+-- 0.01 to 1,000.
+unfoldable pub FiguresInRange : Type 0
+FiguresInRange =
+    (startup : ℕ) (calls : List Call)
+    → let s = run (started startup) calls in
+    ((k : ℕ) → k < 65 → inRange (getD (s .erl) k nan) ≡ true) × (inRange (s .«erl_time_domain») ≡ true)
