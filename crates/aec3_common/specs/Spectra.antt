@@ -15,7 +15,7 @@ part spectra ch = take 65 (drop (ch * 65) spectra)
 abbrev pub bandOf : List Float → ℕ → ℕ → Float
 bandOf spectra ch k = getD (part spectra ch) k nan
 
--- bands 1 to 63, which have figures of their own
+-- bands 1 to 63
 abbrev pub innerBand : ℕ → Bool
 innerBand k = ltb 0 k && ltb k 64
 
@@ -27,10 +27,10 @@ shownBand k = cond (eqb k 0) 1 (cond (eqb k 64) 63 k)
 unfoldable pub endsCopied : List Float → List Float
 endsCopied s = set (set s 0 (getD s 1 nan)) 64 (getD s 63 nan)
 
--- the channels whose flag stands, counted from ch on
-unfoldable pub standing : ℕ → List Bool → List ℕ
-standing ch [] = []
-standing ch (flag ∷ flags) = cond flag (ch ∷ standing (suc ch) flags) (standing (suc ch) flags)
+-- the channels whose flag is set, counted from ch on
+unfoldable pub flagged : ℕ → List Bool → List ℕ
+flagged ch [] = []
+flagged ch (flag ∷ flags) = cond flag (ch ∷ flagged (suc ch) flags) (flagged (suc ch) flags)
 
 -- the numbers added up in order, each sum rounded
 unfoldable pub sumFrom : Float → List Float → Float

@@ -1,16 +1,16 @@
 -- The starred bench values: what document 01 gives, beside what the definitions give.
 use mathlib.Core.Path.{_≡_}
-use mathlib.Core.Bool.{cond}
+use mathlib.Core.Bool.{true, cond}
 use mathlib.Core.List.{List, [], _∷_, map}
 use Prim.Native.Nat.{ℕ, suc, _^_}
 use lib.Dec.{eqb}
 use lib.IntN.{ℤ, pos, negsuc}
-use lib.Ieee.{binary32, ofBits, toUnsigned}
-use lib.ListN.{take}
-use Rattle.aec3_common.specs.Binary32.{energyThreshold}
+use lib.Ieee.{nan, binary32, ofBits, toBits, toUnsigned}
+use lib.ListN.{getD, take}
+use Rattle.aec3_common.specs.Lists.{tab}
 use Rattle.aec3_common.specs.Log2.{rounded, log2Answer, log2Number, log2Bits}
 use Rattle.spectrum_buffer.specs.Ring.{offsetAnswer, placeNumber, placeValue}
-use Rattle.erl_estimator.specs.Erl.{afterBlock}
+use Rattle.erl_estimator.specs.Erl.{started, updateAnswer}
 use Rattle.filter_sections.specs.Sections.{sectionsAnswer}
 
 -- A row: the number of the answer, 0 where the call is accepted, and the values behind it; as given and as defined.
@@ -40,11 +40,11 @@ sectionsRow given n blocks =
     let a = sectionsAnswer n blocks 0 in
     record { given = given; defined = a .refused ∷ cond (eqb (a .refused) 0) (take (suc n) (a .boundaries)) [] }
 
--- an ERL one block later, by a render of 2^26 and a capture in that ratio, as a whole number
-abbrev pub erlRow : List ℕ → ℕ → ℕ → Row
-erlRow given erl capture =
-    let f = afterBlock energyThreshold (rounded (2 ^ 26)) (rounded capture) (record { erl = rounded erl; hold = pos 0 }) in
-    record { given = given; defined = 0 ∷ toUnsigned 32 (f .erl) ∷ [] }
+-- band 1 of an ERL estimator, by its bits, after a first block of render 2^26 and capture 0 in every band
+abbrev pub erlRow : List ℕ → Row
+erlRow given =
+    let a = updateAnswer (started 0) 1 1 (true ∷ []) (tab 65 (λ k. rounded (2 ^ 26))) (tab 65 (λ k. rounded 0)) in
+    record { given = given; defined = a .refused ∷ toBits binary32 (getD (a .state .erl) 1 nan) ∷ [] }
 
 unfoldable pub table : List Row
 table =
@@ -57,7 +57,7 @@ table =
     ∷ ringRow (8 ∷ []) 5 0 (pos 6)
     ∷ sectionsRow (0 ∷ 0 ∷ 2 ∷ 6 ∷ 13 ∷ []) 3 13
     ∷ sectionsRow (3 ∷ []) 3 2
-    ∷ erlRow (0 ∷ 900 ∷ []) 1000 0
+    ∷ erlRow (0 ∷ toBits binary32 (rounded 900) ∷ [])
     ∷ []
 
 -- Claim: in every row of the table the definitions give what document 01 gives.

@@ -22,14 +22,14 @@ use Rattle.aec3_common.specs.Binary32.{energyThreshold, larger, smaller, moved}
 use Rattle.aec3_common.specs.Counts.{oneMore, fallen}
 use Rattle.aec3_common.specs.Lists.{tab}
 use Rattle.aec3_common.specs.Refusal.{accepted}
-use Rattle.aec3_common.specs.Spectra.{shownBand, standing, sum}
+use Rattle.aec3_common.specs.Spectra.{shownBand, flagged, sum}
 use Rattle.aec3_common.proofs.Bands.{shown-below}
 use Rattle.aec3_common.proofs.Choices.{and-left, and-right}
 use Rattle.aec3_common.proofs.Rounding.{failed, holds, Minus, infinite, finite, round-minus, minus-below, round-number, at-least-if-not-below, at-most-if-not-above}
 use Rattle.aec3_common.proofs.Tables.{getD-tab}
 use Rattle.erl_estimator.specs.declared.ErlEstimator.{ErlEstimator}
 use Rattle.erl_estimator.specs.declared.figure.Figure.{Figure}
-use Rattle.erl_estimator.specs.Erl.{minErl, maxErl, share, two32, timeDomainThreshold, learns, learnt, doubled, rested, afterBlock, bandAfter, reduced, started, withCount, resetted, learntFrom, heard, updated, updateRefusal, updateAnswer}
+use Rattle.erl_estimator.specs.Erl.{minErl, maxErl, share, two32, timeDomainThreshold, learns, learnt, doubled, rested, afterBlock, bandAfter, reduced, started, withCount, afterReset, learntFrom, processed, updated, updateRefusal, updateAnswer}
 use Rattle.erl_estimator.specs.Range.{Call, update, reset, after, run, inRange, FiguresInRange}
 
 -- ---- a figure in range
@@ -242,10 +242,10 @@ learnt-kept s render capture kept =
           (record { erl = s .«erl_time_domain»; hold = s .«hold_counter_time_domain» }) (kept .time);
     }
 
-heard-kept : (s : ErlEstimator) (channels : List ℕ) (renders : ℕ) (render capture : List Float) → Kept s → Kept (heard s channels renders render capture)
-unfolding heard
-heard-kept s [] renders render capture kept = kept
-heard-kept s (first ∷ others) renders render capture kept = go (ltb (s .«blocks_since_reset») (s .«startup_phase_length_blocks»))
+processed-kept : (s : ErlEstimator) (channels : List ℕ) (renders : ℕ) (render capture : List Float) → Kept s → Kept (processed s channels renders render capture)
+unfolding processed
+processed-kept s [] renders render capture kept = kept
+processed-kept s (first ∷ others) renders render capture kept = go (ltb (s .«blocks_since_reset») (s .«startup_phase_length_blocks»))
   where
     go :
         (t : Bool)
@@ -254,12 +254,12 @@ heard-kept s (first ∷ others) renders render capture kept = go (ltb (s .«bloc
     go false = learnt-kept s (reduced render (tab renders (λ ch. ch))) (reduced capture (first ∷ others)) kept
 
 after-kept : (s : ErlEstimator) (c : Call) → Kept s → Kept (after s c)
-unfolding after resetted updateAnswer updated
+unfolding after afterReset updateAnswer updated
 after-kept s (update captures renders converged render capture) kept = go (eqb (updateRefusal captures renders converged render capture) accepted)
   where
     go : (t : Bool) → Kept (cond t (updated s renders converged render capture) s)
     go true =
-        heard-kept (withCount s (oneMore (s .«blocks_since_reset»))) (standing 0 converged) renders render capture
+        processed-kept (withCount s (oneMore (s .«blocks_since_reset»))) (flagged 0 converged) renders render capture
         (counted-kept s (oneMore (s .«blocks_since_reset»)) kept)
     go false = kept
 after-kept s reset kept = counted-kept s 0 kept

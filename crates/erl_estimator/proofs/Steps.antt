@@ -12,7 +12,7 @@ use lib.ListN.{length, getD, take, drop, length-set, drop-of-length-le}
 use lib.Seq.{drop-cons}
 use Rattle.aec3_common.specs.Binary32.{energyThreshold, larger}
 use Rattle.aec3_common.specs.Lists.{tab}
-use Rattle.aec3_common.specs.Spectra.{part, bandOf, shownBand, endsCopied, standing, greatestFrom}
+use Rattle.aec3_common.specs.Spectra.{part, bandOf, shownBand, endsCopied, flagged, greatestFrom}
 use Rattle.aec3_common.proofs.Bands.{ends-shown, shown-inner, shown-below}
 use Rattle.aec3_common.proofs.Tables.{tab-is, getD-tab, length-tab}
 use Rattle.erl_estimator.specs.declared.figure.Figure.{Figure}
@@ -65,10 +65,10 @@ record FirstOf (ch : ℕ) (flags : List Bool) (first : ℕ) : Type 0 where
   pub after : ℕ
   pub is : first ≡ ch + after
   pub below : after < length flags
-  pub all : standing ch flags ≡ first ∷ standing (suc first) (drop (suc after) flags)
+  pub all : flagged ch flags ≡ first ∷ flagged (suc first) (drop (suc after) flags)
 
 first-of : (ch : ℕ) (flags : List Bool) (first : ℕ) → firstFrom ch flags ≡ Channel first → FirstOf ch flags first
-unfolding firstFrom standing
+unfolding firstFrom flagged
 first-of ch [] first e = absurd (let z : _≡_ {A = ℕ} 0 1 = cc in omega arith)
 first-of ch (true ∷ flags) first e =
     let same : first ≡ ch = cc in
@@ -76,7 +76,7 @@ first-of ch (true ∷ flags) first e =
       after = 0;
       is = omega arith;
       below = omega arith;
-      all = ap (λ (f : ℕ). f ∷ standing (suc f) flags) (sym same);
+      all = ap (λ (f : ℕ). f ∷ flagged (suc f) flags) (sym same);
     }
 first-of ch (false ∷ flags) first e =
     let r = first-of (suc ch) flags first e in
@@ -87,24 +87,24 @@ first-of ch (false ∷ flags) first e =
       all = r .all;
     }
 
-none-of : (ch : ℕ) (flags : List Bool) → firstFrom ch flags ≡ Nothing → standing ch flags ≡ []
-unfolding firstFrom standing
+none-of : (ch : ℕ) (flags : List Bool) → firstFrom ch flags ≡ Nothing → flagged ch flags ≡ []
+unfolding firstFrom flagged
 none-of ch [] e = refl
 none-of ch (true ∷ flags) e = absurd (let z : _≡_ {A = ℕ} 0 1 = cc in omega arith)
 none-of ch (false ∷ flags) e = none-of (suc ch) flags e
 
-pub no-channel : (flags : List Bool) → firstFrom 0 flags ≡ Nothing → standing 0 flags ≡ []
+pub no-channel : (flags : List Bool) → firstFrom 0 flags ≡ Nothing → flagged 0 flags ≡ []
 no-channel flags e = none-of 0 flags e
 
 module _ (flags : List Bool) (first : ℕ) (e : firstFrom 0 flags ≡ Channel first) where
   pub first-below : first < length flags
   first-below = let r = first-of 0 flags first e in omega (arith, r .is, r .below)
 
-  pub from-first : standing 0 flags ≡ first ∷ standing (suc first) (drop (suc first) flags)
+  pub from-first : flagged 0 flags ≡ first ∷ flagged (suc first) (drop (suc first) flags)
   from-first =
       let r = first-of 0 flags first e in
       let same : r .after ≡ first = omega (arith, r .is) in
-      r .all ∙ ap (λ (n : ℕ). first ∷ standing (suc first) (drop (suc n) flags)) same
+      r .all ∙ ap (λ (n : ℕ). first ∷ flagged (suc first) (drop (suc n) flags)) same
 
 -- ---- the greatest over channels
 
@@ -114,8 +114,8 @@ pub record Raised (spectra : List Float) (flags : List Bool) (first : ℕ) (r : 
   pub long : length r ≡ 65
   pub rest :
       (k : ℕ) → k < 65
-      → greatestFrom (getD r k nan) (map (λ c. bandOf spectra c k) (standing ch (drop ch flags)))
-      ≡ greatestOver spectra (first ∷ standing (suc first) (drop (suc first) flags)) k
+      → greatestFrom (getD r k nan) (map (λ c. bandOf spectra c k) (flagged ch (drop ch flags)))
+      ≡ greatestOver spectra (first ∷ flagged (suc first) (drop (suc first) flags)) k
 
 pub raised-none :
     (spectra : List Float) (flags : List Bool) (first : ℕ)
@@ -134,18 +134,18 @@ module _ {spectra : List Float} {flags : List Bool} {first : ℕ} {r : List Floa
   -- what is left from ch on, by the flag there
   left :
       (t : Bool) → getD flags ch false ≡ t → ch < length flags
-      → standing ch (drop ch flags) ≡ cond t (ch ∷ standing (suc ch) (drop (suc ch) flags)) (standing (suc ch) (drop (suc ch) flags))
-  unfolding standing
-  left t e h = ap (standing ch) (drop-cons flags ch false h) ∙ simp e
+      → flagged ch (drop ch flags) ≡ cond t (ch ∷ flagged (suc ch) (drop (suc ch) flags)) (flagged (suc ch) (drop (suc ch) flags))
+  unfolding flagged
+  left t e h = ap (flagged ch) (drop-cons flags ch false h) ∙ simp e
 
   more-at :
       (t : Bool) → getD flags ch false ≡ t → ch < length flags → (k : ℕ) → k < 65
       → greatestFrom (getD (cond t (tab 65 (λ k. larger (getD r k nan) (bandOf spectra ch k))) r) k nan)
-      (map (λ c. bandOf spectra c k) (standing (suc ch) (drop (suc ch) flags)))
-      ≡ greatestOver spectra (first ∷ standing (suc first) (drop (suc first) flags)) k
+      (map (λ c. bandOf spectra c k) (flagged (suc ch) (drop (suc ch) flags)))
+      ≡ greatestOver spectra (first ∷ flagged (suc first) (drop (suc first) flags)) k
   unfolding greatestFrom
   more-at true e h k b =
-      let others = map (λ c. bandOf spectra c k) (standing (suc ch) (drop (suc ch) flags)) in
+      let others = map (λ c. bandOf spectra c k) (flagged (suc ch) (drop (suc ch) flags)) in
       ap (λ (x : Float). greatestFrom x others) (getD-tab 65 (λ j. larger (getD r j nan) (bandOf spectra ch j)) k nan b)
       ∙ sym (ap (λ (l : List ℕ). greatestFrom (getD r k nan) (map (λ c. bandOf spectra c k) l)) (left true e h))
       ∙ s .rest k b
@@ -164,19 +164,19 @@ module _ {spectra : List Float} {flags : List Bool} {first : ℕ} {r : List Floa
       }
 
   pub raised-all :
-      length flags ≤ ch → r ≡ reduced spectra (first ∷ standing (suc first) (drop (suc first) flags))
-  unfolding reduced greatestFrom standing
+      length flags ≤ ch → r ≡ reduced spectra (first ∷ flagged (suc first) (drop (suc first) flags))
+  unfolding reduced greatestFrom flagged
   raised-all h =
-      tab-is 65 nan (greatestOver spectra (first ∷ standing (suc first) (drop (suc first) flags))) r (s .long)
+      tab-is 65 nan (greatestOver spectra (first ∷ flagged (suc first) (drop (suc first) flags))) r (s .long)
       (λ k b.
-      sym (ap (λ (l : List Bool). greatestFrom (getD r k nan) (map (λ c. bandOf spectra c k) (standing ch l))) (drop-of-length-le flags h))
+      sym (ap (λ (l : List Bool). greatestFrom (getD r k nan) (map (λ c. bandOf spectra c k) (flagged ch l))) (drop-of-length-le flags h))
       ∙ s .rest k b)
 
--- one or two channels, all standing
+-- one or two channels, all flagged
 pub all-stand :
     (n : ℕ) → 0 < n → n ≤ 2
-    → 0 ∷ standing 1 (drop 1 (take (n - 0) (drop 0 (true ∷ true ∷ [])))) ≡ tab n (λ ch. ch)
-unfolding standing tab
+    → 0 ∷ flagged 1 (drop 1 (take (n - 0) (drop 0 (true ∷ true ∷ [])))) ≡ tab n (λ ch. ch)
+unfolding flagged tab
 all-stand zero some few = absurd (omega arith)
 all-stand (suc zero) some few = refl
 all-stand (suc (suc zero)) some few = refl

@@ -12,12 +12,12 @@ use Rattle.aec3_common.specs.Binary32.{energyThreshold, larger, smaller, moved,
 use Rattle.aec3_common.specs.Counts.{oneMore, fallen}
 use Rattle.aec3_common.specs.Refusal.{unless, accepted, badChannelCount, badLength, badValue}
 use Rattle.aec3_common.specs.Settings.{captureChannelsOk, renderChannelsOk}
-use Rattle.aec3_common.specs.Spectra.{bandOf, innerBand, shownBand, standing, sum, greatestFrom}
+use Rattle.aec3_common.specs.Spectra.{bandOf, innerBand, shownBand, flagged, sum, greatestFrom}
 use Rattle.erl_estimator.specs.declared.figure.Figure.{Figure}
 use Rattle.erl_estimator.specs.declared.ErlEstimator.{ErlEstimator}
 use Rattle.erl_estimator.specs.declared.ErlUpdate.{ErlUpdate}
 
--- 0.01 and 1,000, between which an ERL lies
+-- 0.01 and 1,000: from a start every ERL lies between them (`FiguresInRange`)
 abbrev pub minErl : Float
 minErl = ofBits binary32 0x3c23_d70a
 
@@ -52,7 +52,7 @@ learnt threshold render capture f =
 unfoldable pub doubled : ℤ → Float → Float
 doubled hold erl = cond (leZ hold (pos 0)) (smaller (mul binary32 two32 erl) maxErl) erl
 
--- the hold falls by 1, and the ERL doubles by it
+-- the hold falls by 1, and where it is then 0 or less the ERL doubles
 unfoldable pub rested : Figure → Figure
 rested f = record { erl = doubled (fallen (f .hold)) (f .erl); hold = fallen (f .hold) }
 
@@ -97,8 +97,8 @@ withCount s n =
     }
 
 -- a reset clears the block count only
-unfoldable pub resetted : ErlEstimator → ErlEstimator
-resetted s = withCount s 0
+unfoldable pub afterReset : ErlEstimator → ErlEstimator
+afterReset s = withCount s 0
 
 -- the figure of a band of 1 to 63, one block later: the ERL stands at the band's place, the hold one place before
 unfoldable pub bandAfter : List Float → List Float → List Float → List ℤ → ℕ → Figure
@@ -106,7 +106,7 @@ bandAfter render capture erl holds k =
     afterBlock energyThreshold (getD render k nan) (getD capture k nan)
     (record { erl = getD erl k nan; hold = getD holds (k - 1) (pos 0) })
 
--- the ERL of a band of 1 to 63 one block later; that of 0 and 64 as it was
+-- For an inner contract, no part of the definition: the ERL of a band of 1 to 63 one block later; that of 0 and 64 as it was.
 abbrev pub innerErl : List Float → List Float → List Float → List ℤ → ℕ → Float
 innerErl render capture erl holds k =
     cond (innerBand k) (bandAfter render capture erl holds k .erl) (getD erl k nan)
@@ -129,16 +129,16 @@ learntFrom s render capture =
 
 -- Without a converged channel, or below the startup count, nothing moves. Otherwise converged captures and all renders are
 -- reduced and every figure goes one block on.
-unfoldable pub heard : ErlEstimator → List ℕ → ℕ → List Float → List Float → ErlEstimator
-heard s [] renders render capture = s
-heard s (first ∷ others) renders render capture =
+unfoldable pub processed : ErlEstimator → List ℕ → ℕ → List Float → List Float → ErlEstimator
+processed s [] renders render capture = s
+processed s (first ∷ others) renders render capture =
     cond (ltb (s .«blocks_since_reset») (s .«startup_phase_length_blocks»)) s
     (learntFrom s (reduced render (tab renders (λ ch. ch))) (reduced capture (first ∷ others)))
 
 -- an accepted update counts one block first
 unfoldable pub updated : ErlEstimator → ℕ → List Bool → List Float → List Float → ErlEstimator
 updated s renders converged render capture =
-    heard (withCount s (oneMore (s .«blocks_since_reset»))) (standing 0 converged) renders render capture
+    processed (withCount s (oneMore (s .«blocks_since_reset»))) (flagged 0 converged) renders render capture
 
 -- ---- calls turned away
 

@@ -1,4 +1,4 @@
--- The answer of the walk to the first converged channel.
+-- The answer of the walk to the first converged channel: for an inner contract, no part of the definition.
 use mathlib.Core.Bool.{Bool, cond}
 use mathlib.Core.List.{List, [], _∷_}
 use Prim.Native.Nat.{ℕ, suc}

@@ -6,7 +6,7 @@ use Prim.Native.Nat.{ℕ, _<_}
 use lib.Ieee.{Float, nan, le}
 use lib.ListN.{getD}
 use Rattle.erl_estimator.specs.declared.ErlEstimator.{ErlEstimator}
-use Rattle.erl_estimator.specs.Erl.{minErl, maxErl, started, resetted, updateAnswer}
+use Rattle.erl_estimator.specs.Erl.{minErl, maxErl, started, afterReset, updateAnswer}
 
 -- a call: an update with its counts, flags, renders and captures, whether it is accepted or not; or a reset
 pub data Call : Type 0 where
@@ -16,14 +16,14 @@ pub data Call : Type 0 where
 -- the state that a call leaves; a refused update leaves the one it got
 unfoldable pub after : ErlEstimator → Call → ErlEstimator
 after s (update captures renders converged render capture) = updateAnswer s captures renders converged render capture .state
-after s reset = resetted s
+after s reset = afterReset s
 
 -- each call takes up the state that the last one left
 unfoldable pub run : ErlEstimator → List Call → ErlEstimator
 run s [] = s
 run s (c ∷ cs) = run (after s c) cs
 
--- a number, not below 0.01 nor above 1,000; a NaN is neither
+-- a number, not below 0.01 nor above 1,000; a NaN fails
 abbrev pub inRange : Float → Bool
 inRange x = le minErl x && le x maxErl
 

@@ -10,7 +10,7 @@ ghost use Rattle.erl_estimator.specs.Erl.{timeDomainThreshold, learns as
 
 const MIN_ERL: f32 = 0.01;
 
-const MAX_ERL: f32 = 1000.0;
+pub const MAX_ERL: f32 = 1000.0;
 
 const HOLD_BLOCKS: i32 = 1000;
 

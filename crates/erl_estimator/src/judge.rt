@@ -8,7 +8,6 @@ use aec3_common::settings::render_channels_ok;
 use aec3_common::values_ok;
 ghost use mathlib.Core.Path.{_≡_};
 ghost use Prim.Native.Nat.{_≤_};
-ghost use Rattle.aec3_common.specs.Binary32.{valuesOk};
 ghost use Rattle.erl_estimator.specs.Erl.{channelsOk, lengthsOk, updateRefusal};
 
 fn channels_ok(captures: usize, renders: usize) -> bool

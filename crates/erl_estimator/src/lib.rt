@@ -9,6 +9,7 @@ use aec3_common::refusal::ACCEPTED;
 use aec3_common::spectra::copy_ends;
 use bands::move_erl;
 use bands::move_holds;
+use figure::MAX_ERL;
 use figure::time_domain_after;
 use judge::update_refusal;
 use reduce::FirstConverged;
@@ -16,12 +17,11 @@ use reduce::all_reduced;
 use reduce::first_converged;
 use reduce::reduced_from;
 ghost use mathlib.Core.Path.{_≡_};
-ghost use mathlib.Core.List.{_∷_};
-ghost use Prim.Native.Nat.{suc, _*_, _≤_, _<_};
-ghost use lib.ListN.{length, drop};
+ghost use Prim.Native.Nat.{_*_, _≤_, _<_};
+ghost use lib.ListN.{length};
 ghost use Rattle.aec3_common.specs.Counts.{oneMore};
-ghost use Rattle.erl_estimator.specs.Erl.{started, resetted, withCount, learntFrom, reduced, updated as Erl·updated, updateAnswer};
-pub use figure::Figure;
+ghost use Rattle.erl_estimator.specs.Erl.{started, afterReset, withCount, learntFrom, updated as Erl·updated, updateAnswer};
+use figure::Figure;
 
 pub struct ErlEstimator {
     pub erl: [f32; 65],
@@ -44,9 +44,9 @@ impl ErlEstimator {
         ensures { λ r. ⌜ r ≡ started «startup_phase_length_blocks» ⌝ }
     {
         ErlEstimator {
-            erl: [1000.0; 65],
+            erl: [MAX_ERL; 65],
             hold_counters: [0; 63],
-            erl_time_domain: 1000.0,
+            erl_time_domain: MAX_ERL,
             hold_counter_time_domain: 0,
             startup_phase_length_blocks,
             blocks_since_reset: 0,
@@ -55,7 +55,7 @@ impl ErlEstimator {
 
     // Clears the block count; the figures stay.
     pub fn reset(mut self) -> ErlEstimator
-        ensures { λ r. ⌜ r ≡ resetted self ⌝ }
+        ensures { λ r. ⌜ r ≡ afterReset self ⌝ }
     {
         self.blocks_since_reset = 0;
         self
@@ -114,7 +114,7 @@ impl ErlEstimator {
                 if counted.blocks_since_reset < counted.startup_phase_length_blocks {
                     counted
                 } else {
-                    counted.learnt(
+                    counted.learnt_from(
                         all_reduced(render, renders),
                         reduced_from(capture, converged, first),
                     )
@@ -132,7 +132,7 @@ impl ErlEstimator {
     }
 
     // Every figure one block later, by the reduced spectra.
-    fn learnt(mut self, render: [f32; 65], capture: [f32; 65]) -> ErlEstimator
+    fn learnt_from(mut self, render: [f32; 65], capture: [f32; 65]) -> ErlEstimator
         ensures { λ r. ⌜ r ≡ learntFrom self render capture ⌝ }
     {
         let erl = self.erl;

@@ -8,7 +8,7 @@ ghost use Prim.Native.Nat.{suc, _*_, _≤_, _<_};
 ghost use lib.ListN.{length, getD, drop};
 ghost use lib.Ieee.{nan};
 ghost use Rattle.aec3_common.specs.Lists.{tab};
-ghost use Rattle.aec3_common.specs.Spectra.{standing};
+ghost use Rattle.aec3_common.specs.Spectra.{flagged};
 ghost use Rattle.aec3_common.specs.Binary32.{larger as Binary32·larger};
 ghost use Rattle.erl_estimator.specs.Erl.{reduced};
 ghost use Rattle.erl_estimator.specs.First.{firstFrom};
@@ -70,7 +70,7 @@ fn raise_all(s: &mut [f32; 65], other: &[f32])
 pub fn reduced_from(spectra: &[f32], flags: &[bool], first: usize) -> [f32; 65]
     requires { ⌜ (first < length (now flags)) × (length (now flags) ≤ 4) ⌝ }
     requires { ⌜ length (now spectra) ≡ length (now flags) * 65 ⌝ }
-    ensures { λ r. ⌜ r ≡ reduced (now (spectra .entry)) (first ∷ standing (suc first) (drop (suc first) (now (flags .entry)))) ⌝ }
+    ensures { λ r. ⌜ r ≡ reduced (now (spectra .entry)) (first ∷ flagged (suc first) (drop (suc first) (now (flags .entry)))) ⌝ }
 {
     let begun = copied(part(spectra, first));
     let mut r = begun;

@@ -4,7 +4,7 @@ use mathlib.Core.List.{List, _∷_}
 use Prim.Native.Nat.{ℕ, suc, _≤_, _<_}
 use lib.Ieee.{Float}
 use lib.ListN.{drop}
-use Rattle.aec3_common.specs.Spectra.{standing}
+use Rattle.aec3_common.specs.Spectra.{flagged}
 use Rattle.erl_estimator.specs.declared.ErlEstimator.{ErlEstimator}
 use Rattle.erl_estimator.specs.Erl.{learntFrom}
 use Rattle.erl_estimator.proofs.Steps.{no-channel, first-below, from-first}
@@ -45,7 +45,7 @@ returns-3 c =
     let found = c .before .before .before .before .before .before .first .given in
     let answer = c .before .before .before .before .before .before .before .before .first-converged .ensures in
     let counts = c .before .before .before .before .before .before .before .before .before .counted .ensures in
-    c .learnt .ensures
+    c .learnt-from .ensures
     ∙ ap (λ (s : ErlEstimator). learntFrom s (c .before .before .all-reduced .result) (c .before .reduced-from .result)) counts
     ∙ simp (c .before .before .all-reduced .ensures, c .before .reduced-from .ensures)
     (updated-on (a .self) (a .renders) (a .converged .now) (a .render .now) (a .capture .now) (found .0 .0) _

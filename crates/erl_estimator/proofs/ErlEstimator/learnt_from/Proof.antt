@@ -11,8 +11,8 @@ use Rattle.aec3_common.proofs.Holds.{read-back}
 use Rattle.erl_estimator.specs.declared.figure.Figure.{Figure}
 use Rattle.erl_estimator.specs.Erl.{timeDomainThreshold, afterBlock, bandAfter, learntFrom}
 use Rattle.erl_estimator.proofs.Steps.{shown-after}
-use Rattle.erl_estimator.proofs.ErlEstimator.learnt.Statement.{statement}
-use Rattle.erl_estimator.proofs.ErlEstimator.learnt.Tie as tie
+use Rattle.erl_estimator.proofs.ErlEstimator.learnt_from.Statement.{statement}
+use Rattle.erl_estimator.proofs.ErlEstimator.learnt_from.Tie as tie
 
 -- the ERLs of all bands
 bands :
@@ -54,8 +54,8 @@ returns c =
       «blocks_since_reset» = a .t1 .«blocks_since_reset»;
     }
 
-pub learnt-spec : {M : Type 1} → statement M
-learnt-spec =
+pub learnt-from-spec : {M : Type 1} → statement M
+learnt-from-spec =
     tie.close
     (tie.spec
     (λ c. search needs)
