@@ -1,3 +1,4 @@
 pub mod Erl
 pub mod Constants
 pub mod First
+pub mod Steps
