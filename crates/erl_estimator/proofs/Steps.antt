@@ -39,34 +39,22 @@ taught-none : (x : Float) → lt (div binary32 one32 zero32) x ≡ false
 unfolding div ofBits
 taught-none x = never-below x
 
-module _ (render capture erl : Float) (hold : ℤ) where
-  pub hold-by :
-      holdBy (newErl render capture) erl hold
-      ≡ afterBlock energyThreshold render capture (record { erl = erl; hold = hold }) .hold
-  unfolding holdBy newErl afterBlock rested learnt
-  hold-by = go (lt energyThreshold render) refl (lt (div binary32 capture render) erl) refl
-    where
-      go :
-          (t : Bool) → lt energyThreshold render ≡ t → (u : Bool) → lt (div binary32 capture render) erl ≡ u
-          → holdBy (newErl render capture) erl hold
-          ≡ afterBlock energyThreshold render capture (record { erl = erl; hold = hold }) .hold
-      go true e true f = simp (e, f)
-      go true e false f = simp (e, f)
-      go false e u f = simp (e, taught-none erl)
+-- a band's figure after the block, by its new ERL
+abbrev figureBy : Float → Float → ℤ → Figure
+figureBy new erl hold = record { erl = erlBy new erl (holdBy new erl hold); hold = holdBy new erl hold }
 
-  pub erl-by :
-      erlBy (newErl render capture) erl (holdBy (newErl render capture) erl hold)
-      ≡ afterBlock energyThreshold render capture (record { erl = erl; hold = hold }) .erl
-  unfolding erlBy learntErl holdBy newErl afterBlock rested learnt
-  erl-by = go (lt energyThreshold render) refl (lt (div binary32 capture render) erl) refl
-    where
-      go :
-          (t : Bool) → lt energyThreshold render ≡ t → (u : Bool) → lt (div binary32 capture render) erl ≡ u
-          → erlBy (newErl render capture) erl (holdBy (newErl render capture) erl hold)
-          ≡ afterBlock energyThreshold render capture (record { erl = erl; hold = hold }) .erl
-      go true e true f = simp (e, f)
-      go true e false f = simp (e, f)
-      go false e u f = simp (e, taught-none erl)
+figure-by :
+    (render capture erl : Float) (hold : ℤ)
+    → figureBy (newErl render capture) erl hold ≡ afterBlock energyThreshold render capture (record { erl = erl; hold = hold })
+unfolding erlBy learntErl holdBy newErl afterBlock rested learnt
+figure-by render capture erl hold = go (lt energyThreshold render) refl (lt (div binary32 capture render) erl) refl
+  where
+    go :
+        (t : Bool) → lt energyThreshold render ≡ t → (u : Bool) → lt (div binary32 capture render) erl ≡ u
+        → figureBy (newErl render capture) erl hold ≡ afterBlock energyThreshold render capture (record { erl = erl; hold = hold })
+    go true e true f = simp (e, f)
+    go true e false f = simp (e, f)
+    go false e u f = simp (e, taught-none erl)
 
 -- ---- the walk to the first converged channel
 
@@ -267,7 +255,7 @@ module _ (render capture erl : List Float) (holds : List ℤ) where
   hold-at k b =
       let back : k ≡ suc k - 1 = omega arith in
       rw (new-at (suc k) (omega arith))
-      (hold-by (getD render (suc k) nan) (getD capture (suc k) nan) (getD erl (suc k) nan) (getD holds k (pos 0))
+      (ap (λ (f : Figure). f .hold) (figure-by (getD render (suc k) nan) (getD capture (suc k) nan) (getD erl (suc k) nan) (getD holds k (pos 0)))
       ∙ ap (λ (j : ℕ). afterBlock energyThreshold (getD render (suc k) nan) (getD capture (suc k) nan) (record { erl = getD erl (suc k) nan; hold = getD holds j (pos 0) }) .hold) back)
 
   pub holds-after : holdsBy (newErls render capture) erl holds ≡ tab 63 (λ k. bandAfter render capture erl holds (suc k) .hold)
@@ -284,7 +272,7 @@ module _ (render capture erl : List Float) (holds : List ℤ) where
       let up : suc (k - 1) ≡ k = omega arith in
       let h = getD-tab 63 (λ j. holdBy (getD (newErls render capture) (suc j) nan) (getD erl (suc j) nan) (getD holds j (pos 0))) (k - 1) (pos 0) (omega arith) in
       rw (h, up, new-at k (omega arith))
-      (erl-by (getD render k nan) (getD capture k nan) (getD erl k nan) (getD holds (k - 1) (pos 0)))
+      (ap (λ (f : Figure). f .erl) (figure-by (getD render k nan) (getD capture k nan) (getD erl k nan) (getD holds (k - 1) (pos 0))))
 
   pub erls-after :
       endsCopied (erlsBy (newErls render capture) erl (holdsBy (newErls render capture) erl holds))

@@ -1,7 +1,7 @@
 -- What inner functions of the code promise; no part of the definition.
 use mathlib.Core.Bool.{cond}
 use mathlib.Core.List.{List}
-use Prim.Native.Nat.{ℕ, suc, _-_}
+use Prim.Native.Nat.{suc, _-_}
 use lib.IntN.{ℤ, pos}
 use lib.Ieee.{Float, nan, binary32, div, lt}
 use lib.ListN.{getD}

@@ -5,11 +5,6 @@ use crate::figure::moved_down;
 use aec3_common::X2_BAND_ENERGY_THRESHOLD;
 use aec3_common::counts::fallen;
 ghost use mathlib.Core.Path.{_≡_};
-ghost use lib.Ieee.{nan};
-ghost use lib.ListN.{getD};
-ghost use Prim.Native.Nat.{suc, _-_};
-ghost use Rattle.aec3_common.specs.Lists.{tab};
-ghost use Rattle.aec3_common.specs.Spectra.{innerBand};
 ghost use Rattle.erl_estimator.specs.Steps.{newErl, newErls, learntErl, erlBy, holdBy, erlsBy, holdsBy};
 
 // The ratio that a band learns from. Where render is not above the threshold it is infinite, which is below no ERL.
@@ -23,7 +18,7 @@ fn new_erl(render: f32, capture: f32) -> f32
     }
 }
 
-// The ratios of all bands, so that each is computed once. This loop and the next two compile to vector code.
+// The ratios of all bands, each computed once.
 pub fn new_erls(render: &[f32; 65], capture: &[f32; 65]) -> [f32; 65]
     ensures { λ r. ⌜ r ≡ newErls (now (render .entry)) (now (capture .entry)) ⌝ }
 {
@@ -47,11 +42,7 @@ fn hold_after(new: f32, erl: f32, hold: i32) -> i32
 fn learnt_erl(new: f32, erl: f32) -> f32
     ensures { λ r. ⌜ r ≡ learntErl new erl ⌝ }
 {
-    if new < erl {
-        moved_down(erl, new)
-    } else {
-        erl
-    }
+    if new < erl { moved_down(erl, new) } else { erl }
 }
 
 // The ERL beside the hold that it has after the block.

@@ -5,7 +5,7 @@ use aec3_common::moved;
 use aec3_common::smaller;
 use aec3_common::spectra::sum;
 ghost use mathlib.Core.Path.{_≡_};
-ghost use Rattle.aec3_common.specs.Binary32.{larger as larger32, moved as moved32};
+ghost use Rattle.aec3_common.specs.Binary32.{larger as Binary32·larger, moved as Binary32·moved};
 ghost use Rattle.aec3_common.specs.Spectra.{sum as Spectra·sum};
 ghost use Rattle.erl_estimator.specs.Erl.{share, minErl, timeDomainThreshold, learns as Erl·learns, learnt as Erl·learnt, doubled as Erl·doubled, rested as Erl·rested, afterBlock};
 
@@ -31,7 +31,7 @@ fn learns(threshold: f32, render: f32, capture: f32, erl: f32) -> bool
 
 // The ERL moved towards a new one below it.
 pub fn moved_down(erl: f32, new: f32) -> f32
-    ensures { λ r. ⌜ r ≡ larger32 (moved32 erl new share) minErl ⌝ }
+    ensures { λ r. ⌜ r ≡ Binary32·larger (Binary32·moved erl new share) minErl ⌝ }
 {
     larger(moved(erl, new, 0.1), MIN_ERL)
 }
@@ -70,7 +70,7 @@ fn rested(f: Figure) -> Figure
 }
 
 // A figure one block later.
-pub fn after_block(threshold: f32, render: f32, capture: f32, f: Figure) -> Figure
+fn after_block(threshold: f32, render: f32, capture: f32, f: Figure) -> Figure
     ensures { λ r. ⌜ r ≡ afterBlock threshold render capture f ⌝ }
 {
     rested(learnt(threshold, render, capture, f))

@@ -131,7 +131,7 @@ impl ErlEstimator {
         self
     }
 
-    // Every figure one block later, by the reduced spectra.
+    // Every figure one block later, by the reduced spectra. The arrays are made anew: a copy changed in place took longer.
     fn learnt(self, render: &[f32; 65], capture: &[f32; 65]) -> ErlEstimator
         ensures { λ r. ⌜ r ≡ learntFrom self (now (render .entry)) (now (capture .entry)) ⌝ }
     {

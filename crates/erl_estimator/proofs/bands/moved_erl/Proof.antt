@@ -1,5 +1,5 @@
 -- Each band from 1 up to k has its ERL of after the block. The measure is the bands left.
-use mathlib.Core.Path.{_≡_, _∙_}
+use mathlib.Core.Path.{_∙_}
 use Prim.Native.Nat.{_-_}
 use lib.Ieee.{nan}
 use lib.IntN.{pos}
@@ -8,7 +8,7 @@ use Rattle.aec3_common.specs.Binary32.{zero32}
 use Rattle.aec3_common.specs.Lists.{tab}
 use Rattle.aec3_common.proofs.Holds.{read-back}
 use Rattle.aec3_common.proofs.Loops.{loops}
-use Rattle.aec3_common.proofs.Tables.{Stored, stored-none, stored-more, stored-inner}
+use Rattle.aec3_common.proofs.Tables.{Stored, stored-more, stored-inner}
 use Rattle.erl_estimator.specs.Steps.{erlBy, erlsBy}
 use Rattle.erl_estimator.proofs.Steps.{beside-same}
 use Rattle.erl_estimator.proofs.bands.moved_erl.Statement.{statement}

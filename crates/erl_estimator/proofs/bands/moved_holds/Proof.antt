@@ -1,5 +1,5 @@
 -- Each hold up to k is that of after the block. The measure is the holds left.
-use mathlib.Core.Path.{_≡_, _∙_}
+use mathlib.Core.Path.{_∙_}
 use Prim.Native.Nat.{suc, _-_}
 use native.Mathlib.Numerals.{add-one}
 use lib.Ieee.{nan}
