@@ -6,31 +6,55 @@ use Prim.Native.Nat.{ℕ, zero, suc, _+_, _-_, _*_, _≤_, _<_}
 use native.Mathlib.Nat.{le-of-suc-le-suc, not-suc-le-zero}
 use native.Mathlib.Numerals.{add-one}
 use native.Mathlib.Omega.{arith}
+use borrow.Author.Tests.{ltb-true}
+use lib.Dec.{ltb}
 use lib.IntN.{ℤ, pos}
-use lib.Ieee.{Float, nan}
+use lib.Ieee.{Float, nan, inf, fin, binary32, ofBits, div, lt}
 use lib.ListN.{length, getD, take, drop, length-set, drop-of-length-le}
 use lib.Seq.{drop-cons}
-use Rattle.aec3_common.specs.Binary32.{energyThreshold, larger}
+use Rattle.aec3_common.specs.Binary32.{zero32, one32, energyThreshold, larger}
 use Rattle.aec3_common.specs.Lists.{tab}
-use Rattle.aec3_common.specs.Spectra.{part, bandOf, shownBand, endsCopied, flagged, greatestFrom}
+use Rattle.aec3_common.specs.Spectra.{part, bandOf, innerBand, shownBand, endsCopied, flagged, greatestFrom}
+use Rattle.aec3_common.proofs.Choices.{and-left, and-right}
 use Rattle.aec3_common.proofs.Bands.{ends-shown, shown-inner, shown-below}
 use Rattle.aec3_common.proofs.Tables.{tab-is, getD-tab, length-tab}
 use Rattle.erl_estimator.specs.declared.figure.Figure.{Figure}
 use Rattle.erl_estimator.specs.declared.reduce.FirstConverged.{FirstConverged}
 use Rattle.erl_estimator.specs.declared.reduce.FirstConverged.the-variants.{Channel, Nothing}
-use Rattle.erl_estimator.specs.Erl.{afterBlock, bandAfter, innerErl, greatestOver, reduced}
+use Rattle.erl_estimator.specs.Erl.{learnt, rested, afterBlock, bandAfter, greatestOver, reduced}
 use Rattle.erl_estimator.specs.First.{firstFrom}
+use Rattle.erl_estimator.specs.Steps.{newErl, newErls, learntErl, erlBy, holdBy, erlsBy, holdsBy}
 
--- the hold at place k is that of band k + 1
-pub hold-at :
-    (render capture erl : List Float) (holds : List ℤ) (k : ℕ) (h : ℤ) → h ≡ getD holds k (pos 0)
-    → afterBlock energyThreshold (getD render (k + 1) nan) (getD capture (k + 1) nan) (record { erl = getD erl (k + 1) nan; hold = h }) .hold
-    ≡ bandAfter render capture erl holds (suc k) .hold
-unfolding bandAfter
-hold-at render capture erl holds k h e =
-    let back : k ≡ suc k - 1 = omega arith in
-    rw (add-one, e)
-    (ap (λ (j : ℕ). afterBlock energyThreshold (getD render (suc k) nan) (getD capture (suc k) nan) (record { erl = getD erl (suc k) nan; hold = getD holds j (pos 0) }) .hold) back)
+-- ---- one band by its new ERL
+
+-- plus infinity is below nothing
+never-below : (x : Float) → lt (inf false) x ≡ false
+unfolding lt
+never-below nan = refl
+never-below (inf s) = refl
+never-below (fin s m e) = refl
+
+-- so an infinite new ERL teaches nothing
+taught-none : (x : Float) → lt (div binary32 one32 zero32) x ≡ false
+unfolding div ofBits
+taught-none x = never-below x
+
+-- a band's figure after the block, by its new ERL
+abbrev figureBy : Float → Float → ℤ → Figure
+figureBy new erl hold = record { erl = erlBy new erl (holdBy new erl hold); hold = holdBy new erl hold }
+
+figure-by :
+    (render capture erl : Float) (hold : ℤ)
+    → figureBy (newErl render capture) erl hold ≡ afterBlock energyThreshold render capture (record { erl = erl; hold = hold })
+unfolding erlBy learntErl holdBy newErl afterBlock rested learnt
+figure-by render capture erl hold = go (lt energyThreshold render) refl (lt (div binary32 capture render) erl) refl
+  where
+    go :
+        (t : Bool) → lt energyThreshold render ≡ t → (u : Bool) → lt (div binary32 capture render) erl ≡ u
+        → figureBy (newErl render capture) erl hold ≡ afterBlock energyThreshold render capture (record { erl = erl; hold = hold })
+    go true e true f = simp (e, f)
+    go true e false f = simp (e, f)
+    go false e u f = simp (e, taught-none erl)
 
 -- ---- the walk to the first converged channel
 
@@ -182,21 +206,78 @@ all-stand (suc zero) some few = refl
 all-stand (suc (suc zero)) some few = refl
 all-stand (suc (suc (suc n))) some few = absurd (omega arith)
 
--- ---- the ERLs of all bands
+-- ---- the figures of all bands
 
 length-ends : (s : List Float) → length s ≡ 65 → length (endsCopied s) ≡ 65
 unfolding endsCopied
 length-ends s h = simp length-set h
 
--- bands 0 and 64 copy 1 and 63 after the others have moved
-pub shown-after :
-    (render capture erl : List Float) (holds : List ℤ)
-    → endsCopied (tab 65 (innerErl render capture erl holds)) ≡ tab 65 (λ k. bandAfter render capture erl holds (shownBand k) .erl)
-shown-after render capture erl holds =
-    let f : ℕ → Float = innerErl render capture erl holds in
-    tab-is 65 nan (λ k. bandAfter render capture erl holds (shownBand k) .erl) (endsCopied (tab 65 f))
-    (length-ends (tab 65 f) (length-tab 65 f))
-    (λ k h.
-    ends-shown (tab 65 f) k (length-tab 65 f) h
-    ∙ getD-tab 65 f (shownBand k) nan (shown-below k h)
-    ∙ simp (shown-inner k h))
+-- bands 0 and 64 copy 1 and 63, whatever they were
+ends-of-inner :
+    (f g : ℕ → Float) → endsCopied (tab 65 (λ k. cond (innerBand k) (f k) (g k))) ≡ tab 65 (λ k. f (shownBand k))
+ends-of-inner f g =
+    let h : ℕ → Float = λ k. cond (innerBand k) (f k) (g k) in
+    tab-is 65 nan (λ k. f (shownBand k)) (endsCopied (tab 65 h))
+    (length-ends (tab 65 h) (length-tab 65 h))
+    (λ k b.
+    ends-shown (tab 65 h) k (length-tab 65 h) b
+    ∙ getD-tab 65 h (shownBand k) nan (shown-below k b)
+    ∙ simp (shown-inner k b))
+
+tab-same :
+    {A : Type 0} (n : ℕ) (d : A) (f g : ℕ → A) → ((k : ℕ) → k < n → f k ≡ g k) → tab n f ≡ tab n g
+tab-same n d f g same = tab-is n d g (tab n f) (length-tab n f) (λ k b. getD-tab n f k d b ∙ same k b)
+
+-- what stands beside the inner bands is one value
+pub beside-same :
+    (f : ℕ → Float) (v : Float)
+    → tab 65 (λ k. cond (innerBand k) (f k) (getD (tab 65 (λ j. v)) k nan)) ≡ tab 65 (λ k. cond (innerBand k) (f k) v)
+beside-same f v = tab-same 65 nan _ _ (λ k b. ap (λ (x : Float). cond (innerBand k) (f k) x) (getD-tab 65 (λ j. v) k nan b))
+
+-- a shown band is one of 1 to 63
+shown-some : (k : ℕ) → k < 65 → 0 < shownBand k
+shown-some k b = ltb-true 0 (shownBand k) (and-left (ltb 0 (shownBand k)) (ltb (shownBand k) 64) (shown-inner k b))
+
+shown-few : (k : ℕ) → k < 65 → shownBand k < 64
+shown-few k b = ltb-true (shownBand k) 64 (and-right (ltb 0 (shownBand k)) (ltb (shownBand k) 64) (shown-inner k b))
+
+module _ (render capture erl : List Float) (holds : List ℤ) where
+  new-at : (k : ℕ) → k < 65 → getD (newErls render capture) k nan ≡ newErl (getD render k nan) (getD capture k nan)
+  unfolding newErls
+  new-at k b = getD-tab 65 (λ j. newErl (getD render j nan) (getD capture j nan)) k nan b
+
+  -- the hold of band k + 1
+  hold-at :
+      (k : ℕ) → k < 63
+      → holdBy (getD (newErls render capture) (suc k) nan) (getD erl (suc k) nan) (getD holds k (pos 0))
+      ≡ bandAfter render capture erl holds (suc k) .hold
+  unfolding bandAfter
+  hold-at k b =
+      let back : k ≡ suc k - 1 = omega arith in
+      rw (new-at (suc k) (omega arith))
+      (ap (λ (f : Figure). f .hold) (figure-by (getD render (suc k) nan) (getD capture (suc k) nan) (getD erl (suc k) nan) (getD holds k (pos 0)))
+      ∙ ap (λ (j : ℕ). afterBlock energyThreshold (getD render (suc k) nan) (getD capture (suc k) nan) (record { erl = getD erl (suc k) nan; hold = getD holds j (pos 0) }) .hold) back)
+
+  pub holds-after : holdsBy (newErls render capture) erl holds ≡ tab 63 (λ k. bandAfter render capture erl holds (suc k) .hold)
+  unfolding holdsBy
+  holds-after = tab-same 63 (pos 0) _ _ hold-at
+
+  -- the ERL of an inner band
+  erl-at :
+      (k : ℕ) → 0 < k → k < 64
+      → erlBy (getD (newErls render capture) k nan) (getD erl k nan) (getD (holdsBy (newErls render capture) erl holds) (k - 1) (pos 0))
+      ≡ bandAfter render capture erl holds k .erl
+  unfolding bandAfter holdsBy
+  erl-at k some few =
+      let up : suc (k - 1) ≡ k = omega arith in
+      let h = getD-tab 63 (λ j. holdBy (getD (newErls render capture) (suc j) nan) (getD erl (suc j) nan) (getD holds j (pos 0))) (k - 1) (pos 0) (omega arith) in
+      rw (h, up, new-at k (omega arith))
+      (ap (λ (f : Figure). f .erl) (figure-by (getD render k nan) (getD capture k nan) (getD erl k nan) (getD holds (k - 1) (pos 0))))
+
+  pub erls-after :
+      endsCopied (erlsBy (newErls render capture) erl (holdsBy (newErls render capture) erl holds))
+      ≡ tab 65 (λ k. bandAfter render capture erl holds (shownBand k) .erl)
+  unfolding erlsBy
+  erls-after =
+      ends-of-inner _ _
+      ∙ tab-same 65 nan _ _ (λ k b. erl-at (shownBand k) (shown-some k b) (shown-few k b))

@@ -12,7 +12,7 @@ use Rattle.aec3_common.specs.Binary32.{energyThreshold, larger, smaller, moved,
 use Rattle.aec3_common.specs.Counts.{oneMore, fallen}
 use Rattle.aec3_common.specs.Refusal.{unless, accepted, badChannelCount, badLength, badValue}
 use Rattle.aec3_common.specs.Settings.{captureChannelsOk, renderChannelsOk}
-use Rattle.aec3_common.specs.Spectra.{bandOf, innerBand, shownBand, flagged, sum, greatestFrom}
+use Rattle.aec3_common.specs.Spectra.{bandOf, shownBand, flagged, sum, greatestFrom}
 use Rattle.erl_estimator.specs.declared.figure.Figure.{Figure}
 use Rattle.erl_estimator.specs.declared.ErlEstimator.{ErlEstimator}
 use Rattle.erl_estimator.specs.declared.ErlUpdate.{ErlUpdate}
@@ -105,11 +105,6 @@ unfoldable pub bandAfter : List Float → List Float → List Float → List ℤ
 bandAfter render capture erl holds k =
     afterBlock energyThreshold (getD render k nan) (getD capture k nan)
     (record { erl = getD erl k nan; hold = getD holds (k - 1) (pos 0) })
-
--- For an inner contract, no part of the definition: the ERL of a band of 1 to 63 one block later; that of 0 and 64 as it was.
-abbrev pub innerErl : List Float → List Float → List Float → List ℤ → ℕ → Float
-innerErl render capture erl holds k =
-    cond (innerBand k) (bandAfter render capture erl holds k .erl) (getD erl k nan)
 
 -- every figure one block later, by the reduced spectra
 unfoldable pub learntFrom : ErlEstimator → List Float → List Float → ErlEstimator

@@ -5,14 +5,15 @@ use aec3_common::moved;
 use aec3_common::smaller;
 use aec3_common::spectra::sum;
 ghost use mathlib.Core.Path.{_≡_};
+ghost use Rattle.aec3_common.specs.Binary32.{larger as Binary32·larger, moved as Binary32·moved};
 ghost use Rattle.aec3_common.specs.Spectra.{sum as Spectra·sum};
-ghost use Rattle.erl_estimator.specs.Erl.{timeDomainThreshold, learns as Erl·learns, learnt as Erl·learnt, doubled as Erl·doubled, rested as Erl·rested, afterBlock};
+ghost use Rattle.erl_estimator.specs.Erl.{share, minErl, timeDomainThreshold, learns as Erl·learns, learnt as Erl·learnt, doubled as Erl·doubled, rested as Erl·rested, afterBlock};
 
 const MIN_ERL: f32 = 0.01;
 
 pub const MAX_ERL: f32 = 1000.0;
 
-const HOLD_BLOCKS: i32 = 1000;
+pub const HOLD_BLOCKS: i32 = 1000;
 
 // T times 65, rounded.
 const TIME_DOMAIN_THRESHOLD: f32 = 2_860_979_456.0;
@@ -28,12 +29,19 @@ fn learns(threshold: f32, render: f32, capture: f32, erl: f32) -> bool
     (render > threshold) & (capture / render < erl)
 }
 
+// The ERL moved towards a new one below it.
+pub fn moved_down(erl: f32, new: f32) -> f32
+    ensures { λ r. ⌜ r ≡ Binary32·larger (Binary32·moved erl new share) minErl ⌝ }
+{
+    larger(moved(erl, new, 0.1), MIN_ERL)
+}
+
 fn learnt(threshold: f32, render: f32, capture: f32, f: Figure) -> Figure
     ensures { λ r. ⌜ r ≡ Erl·learnt threshold render capture f ⌝ }
 {
     if learns(threshold, render, capture, f.erl) {
         Figure {
-            erl: larger(moved(f.erl, capture / render, 0.1), MIN_ERL),
+            erl: moved_down(f.erl, capture / render),
             hold: HOLD_BLOCKS,
         }
     } else {
@@ -41,7 +49,7 @@ fn learnt(threshold: f32, render: f32, capture: f32, f: Figure) -> Figure
     }
 }
 
-fn doubled(hold: i32, erl: f32) -> f32
+pub fn doubled(hold: i32, erl: f32) -> f32
     ensures { λ r. ⌜ r ≡ Erl·doubled hold erl ⌝ }
 {
     if hold <= 0 {
@@ -62,7 +70,7 @@ fn rested(f: Figure) -> Figure
 }
 
 // A figure one block later.
-pub fn after_block(threshold: f32, render: f32, capture: f32, f: Figure) -> Figure
+fn after_block(threshold: f32, render: f32, capture: f32, f: Figure) -> Figure
     ensures { λ r. ⌜ r ≡ afterBlock threshold render capture f ⌝ }
 {
     rested(learnt(threshold, render, capture, f))

@@ -7,8 +7,9 @@ mod reduce;
 use aec3_common::counts::one_more;
 use aec3_common::refusal::ACCEPTED;
 use aec3_common::spectra::copy_ends;
-use bands::move_erl;
-use bands::move_holds;
+use bands::moved_erl;
+use bands::moved_holds;
+use bands::new_erls;
 use figure::MAX_ERL;
 use figure::time_domain_after;
 use judge::update_refusal;
@@ -114,10 +115,9 @@ impl ErlEstimator {
                 if counted.blocks_since_reset < counted.startup_phase_length_blocks {
                     counted
                 } else {
-                    counted.learnt_from(
-                        all_reduced(render, renders),
-                        reduced_from(capture, converged, first),
-                    )
+                    let reduced_render = all_reduced(render, renders);
+                    let reduced_capture = reduced_from(capture, converged, first);
+                    counted.learnt_from(&reduced_render, &reduced_capture)
                 }
             }
         }
@@ -131,22 +131,26 @@ impl ErlEstimator {
         self
     }
 
-    // Every figure one block later, by the reduced spectra.
-    fn learnt_from(mut self, render: [f32; 65], capture: [f32; 65]) -> ErlEstimator
-        ensures { λ r. ⌜ r ≡ learntFrom self render capture ⌝ }
+    // Every figure one block later, by the reduced spectra. The arrays are made anew: a copy changed in place took longer.
+    fn learnt_from(self, render: &[f32; 65], capture: &[f32; 65]) -> ErlEstimator
+        ensures { λ r. ⌜ r ≡ learntFrom self (now (render .entry)) (now (capture .entry)) ⌝ }
     {
-        let erl = self.erl;
-        let holds = self.hold_counters;
         let before = Figure {
             erl: self.erl_time_domain,
             hold: self.hold_counter_time_domain,
         };
-        let time = time_domain_after(before, &render, &capture);
-        move_erl(&mut self.erl, &holds, &render, &capture);
-        copy_ends(&mut self.erl);
-        move_holds(&mut self.hold_counters, &erl, &render, &capture);
-        self.erl_time_domain = time.erl;
-        self.hold_counter_time_domain = time.hold;
-        self
+        let time = time_domain_after(before, render, capture);
+        let new = new_erls(render, capture);
+        let hold_counters = moved_holds(&self.hold_counters, &self.erl, &new);
+        let mut erl = moved_erl(&self.erl, &hold_counters, &new);
+        copy_ends(&mut erl);
+        ErlEstimator {
+            erl,
+            hold_counters,
+            erl_time_domain: time.erl,
+            hold_counter_time_domain: time.hold,
+            startup_phase_length_blocks: self.startup_phase_length_blocks,
+            blocks_since_reset: self.blocks_since_reset,
+        }
     }
 }

@@ -41,16 +41,16 @@ returns-2 c =
 
 returns-3 : tie.Need-returns-3
 returns-3 c =
-    let a = c .before .before .before .before .before .before .before .before .before .before .before .before .before .args in
-    let found = c .before .before .before .before .before .before .first .given in
-    let answer = c .before .before .before .before .before .before .before .before .first-converged .ensures in
-    let counts = c .before .before .before .before .before .before .before .before .before .counted .ensures in
+    let a = c .before .before .before .before .before .before .before .before .before .before .before .before .before .before .before .args in
+    let found = c .before .before .before .before .before .before .before .before .first .given in
+    let answer = c .before .before .before .before .before .before .before .before .before .before .first-converged .ensures in
+    let counts = c .before .before .before .before .before .before .before .before .before .before .before .counted .ensures in
     c .learnt-from .ensures
-    ∙ ap (λ (s : ErlEstimator). learntFrom s (c .before .before .all-reduced .result) (c .before .reduced-from .result)) counts
-    ∙ simp (c .before .before .all-reduced .ensures, c .before .reduced-from .ensures)
+    ∙ ap (λ (s : ErlEstimator). learntFrom s (c .before .before .before .before .all-reduced .result) (c .before .before .before .reduced-from .result)) counts
+    ∙ simp (c .before .before .before .before .all-reduced .ensures, c .before .before .before .reduced-from .ensures)
     (updated-on (a .self) (a .renders) (a .converged .now) (a .render .now) (a .capture .now) (found .0 .0) _
     (from-first (a .converged .now) (found .0 .0) (sym answer ∙ found .1))
-    (subst (λ (s : ErlEstimator). s .«startup_phase_length_blocks» ≤ s .«blocks_since_reset») counts (c .before .before .before .if1 .left)))
+    (subst (λ (s : ErlEstimator). s .«startup_phase_length_blocks» ≤ s .«blocks_since_reset») counts (c .before .before .before .before .before .if1 .left)))
 
 pub updated-spec : {M : Type 1} → statement M
 updated-spec =

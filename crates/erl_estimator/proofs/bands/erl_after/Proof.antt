@@ -1,12 +1,13 @@
 use borrow.Author.Needs.{needs}
-use mathlib.Core.Path.{_∙_, ap}
+use mathlib.Core.Path.{_∙_}
 use mir.Facts.{toZ-ofZ}
-use Rattle.erl_estimator.specs.declared.figure.Figure.{Figure}
+use Rattle.erl_estimator.specs.Steps.{erlBy}
 use Rattle.erl_estimator.proofs.bands.erl_after.Statement.{statement}
 use Rattle.erl_estimator.proofs.bands.erl_after.Tie as tie
 
 returns : tie.Need-returns
-returns c = ap (λ (f : Figure). f .erl) (c .after-block .ensures) ∙ simp (toZ-ofZ (c .before .fits .hold))
+unfolding erlBy
+returns c = c .doubled .ensures ∙ simp (toZ-ofZ (c .before .before .fits .hold), c .before .learnt-erl .ensures)
 
 pub erl-after-spec : {M : Type 1} → statement M
-erl-after-spec = tie.close (tie.spec (λ c κs. search needs) returns)
+erl-after-spec = tie.close (tie.spec (λ c κs. search needs) (λ c κs. search needs) returns)

@@ -7,16 +7,11 @@ use Rattle.erl_estimator.proofs.figure.learnt.Tie as tie
 returns : tie.Need-returns
 unfolding learnt
 returns c =
-    simp (
-      sym (c .before .before .before .learns .ensures) ∙ c .before .before .if1 .taken,
-      c .larger .ensures,
-      c .before .moved .ensures,
-    )
+    simp (sym (c .before .before .learns .ensures) ∙ c .before .if1 .taken, c .moved-down .ensures)
 
 returns-2 : tie.Need-returns-2
 unfolding learnt
 returns-2 c = simp (sym (c .before .learns .ensures) ∙ c .if1 .left)
 
 pub learnt-spec : {M : Type 1} → statement M
-learnt-spec =
-    tie.close (tie.spec (λ c κs. search needs) (λ c κs. search needs) (λ c κs. search needs) returns returns-2)
+learnt-spec = tie.close (tie.spec (λ c κs. search needs) (λ c κs. search needs) returns returns-2)
