@@ -1,8 +1,9 @@
-//! Compares the lines of a replay program with those of the published Rust.
+//! Compares the lines of the replay programs with those of the published Rust.
 
 use crate::lines::Lines;
+use crate::program::Program;
 use crate::run::{run, Run};
-use crate::scripts::{named, Scripts, NAMES};
+use crate::scripts::{Name, NAMES};
 use std::io::{self, Write};
 use std::process::{Command, Output, Stdio};
 use std::thread;
@@ -10,16 +11,15 @@ use std::thread;
 /// How many bytes of a record a difference shows.
 const BYTES_SHOWN: usize = 1_024;
 
-/// Compares every named script and prints a line for each name, then the
-/// counts. Tells whether all were the same.
-pub fn compare(replay: &str) -> bool {
+/// Compares every named script with its program, whose file is said, and prints
+/// a line for each name, then the counts. Tells whether all were the same.
+pub fn compare<'a>(file: impl Fn(Program) -> &'a str) -> bool {
     let mut failed = 0;
-    for name in NAMES {
-        let scripts = named(name).expect("every listed name has scripts");
-        match compare_all(name, scripts, replay) {
-            Ok(found) => println!("same {name}: {found}"),
+    for name in &NAMES {
+        match compare_all(name, file(name.program)) {
+            Ok(found) => println!("same {}: {found}", name.name),
             Err(difference) => {
-                println!("failed {name}: {difference}");
+                println!("failed {}: {difference}", name.name);
                 failed += 1;
             }
         }
@@ -29,18 +29,20 @@ pub fn compare(replay: &str) -> bool {
 }
 
 /// Compares the scripts of one name up to the first difference.
-fn compare_all(name: &str, scripts: Scripts, replay: &str) -> Result<String, String> {
+fn compare_all(name: &Name, file: &str) -> Result<String, String> {
+    let scripts = name.scripts();
     let count = scripts.len();
     let mut records = 0;
-    for (at, script) in scripts.enumerate() {
-        let compared = compare_one(&script.bytes, replay);
+    for (at, make) in scripts.into_iter().enumerate() {
+        let compared = compare_one(name.program, &make().bytes, file);
         records += compared.map_err(|difference| {
             if count == 1 {
                 difference
             } else {
                 format!(
-                    "script {} (oracle generate {name} {0})\n{difference}",
-                    at + 1
+                    "script {} (oracle generate {} {0})\n{difference}",
+                    at + 1,
+                    name.name
                 )
             }
         })?;
@@ -53,24 +55,25 @@ fn compare_all(name: &str, scripts: Scripts, replay: &str) -> Result<String, Str
 
 /// Gives the number of records, or the first difference. A program that ends
 /// with another status than 0 is not the same, whatever it printed.
-fn compare_one(script: &[u8], replay: &str) -> Result<usize, String> {
-    let (lines, records) = run(script);
+fn compare_one(program: Program, script: &[u8], file: &str) -> Result<usize, String> {
+    let (lines, records) = run(program, script);
     let replayed =
-        replay_script(replay, script).map_err(|error| format!("{replay} does not run: {error}"))?;
+        replay_script(file, script).map_err(|error| format!("{file} does not run: {error}"))?;
     if lines.as_bytes() != replayed.stdout {
-        Err(first_difference(script, lines.as_bytes(), &replayed.stdout))
+        let record = |line| record_of_line(program, script, line);
+        Err(first_difference(lines.as_bytes(), &replayed.stdout, record))
     } else if !replayed.status.success() {
-        Err(format!("same lines, but {replay}: {}", replayed.status))
+        Err(format!("same lines, but {file}: {}", replayed.status))
     } else {
         Ok(records)
     }
 }
 
-/// Runs the replay program on a script. Its input is written from a thread of
+/// Runs a replay program on a script. Its input is written from a thread of
 /// its own, as it may print before it has read everything, or end without
 /// reading the rest; a failed write therefore counts for nothing.
-fn replay_script(replay: &str, script: &[u8]) -> io::Result<Output> {
-    let mut child = Command::new(replay)
+fn replay_script(file: &str, script: &[u8]) -> io::Result<Output> {
+    let mut child = Command::new(file)
         .stdin(Stdio::piped())
         .stdout(Stdio::piped())
         .spawn()?;
@@ -81,8 +84,8 @@ fn replay_script(replay: &str, script: &[u8]) -> io::Result<Output> {
     })
 }
 
-/// Words for the first line that differs.
-fn first_difference(script: &[u8], expected: &[u8], printed: &[u8]) -> String {
+/// Words for the first line that differs, with the record of its number.
+fn first_difference(expected: &[u8], printed: &[u8], record: impl Fn(usize) -> String) -> String {
     let mut ours = expected.split_inclusive(|&byte| byte == b'\n');
     let mut theirs = printed.split_inclusive(|&byte| byte == b'\n');
     let mut number = 0;
@@ -94,7 +97,7 @@ fn first_difference(script: &[u8], expected: &[u8], printed: &[u8]) -> String {
                 "line {number}\n  Rust:   {}\n  replay: {}\n  {}",
                 shown_line(wanted),
                 shown_line(given),
-                record_of_line(script, number)
+                record(number)
             );
         }
         if wanted.is_none() {
@@ -110,9 +113,9 @@ fn shown_line(line: Option<&[u8]>) -> String {
 }
 
 /// The record that gives a line, found by running the script again.
-fn record_of_line(script: &[u8], line: usize) -> String {
+fn record_of_line(program: Program, script: &[u8], line: usize) -> String {
     let mut lines = Lines::default();
-    let mut run = Run::new(script);
+    let mut run = Run::new(program, script);
     let mut records = 0;
     while let Some(bytes) = run.step(&mut lines) {
         records += 1;

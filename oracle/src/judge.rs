@@ -1,7 +1,7 @@
 //! The calls that document 01 turns away, by its numbers and in its order. The
 //! published Rust asserts or answers anything there, so it is not asked.
 
-use crate::kinds::erl;
+use crate::kinds::{erl, subband};
 use std::fmt;
 use std::ops::RangeInclusive;
 
@@ -20,6 +20,9 @@ pub const BANDS: usize = 65;
 
 /// The greatest value of a spectrum, 2^100.
 pub const GREATEST_VALUE: f32 = f32::from_bits(0x7180_0000);
+
+/// The greatest maximum of an ERLE figure; the least minimum is 1.
+pub const GREATEST_ERLE: f32 = 100_000.0;
 
 /// The number under which a call is turned away.
 #[derive(Debug, Clone, Copy, PartialEq, Eq)]
@@ -87,6 +90,30 @@ pub fn erl_update(call: &erl::Call) -> Judged {
         !in_value_range(&call.render) || !in_value_range(&call.capture),
         6,
     )
+}
+
+/// 1: not 1 <= min <= max_l, max_h <= 100,000. 2: a channel count out of range.
+pub fn subband_start(start: &subband::Start) -> Judged {
+    let in_order = start.min >= 1.0
+        && [start.max_l, start.max_h]
+            .iter()
+            .all(|max| (start.min..=GREATEST_ERLE).contains(max));
+    refuse_if(!in_order, 1)?;
+    refuse_if(!CAPTURE_CHANNELS.contains(&start.channels), 2)
+}
+
+/// 21: a channel count that is not the state's. 5: flags, renders, captures or
+/// residuals not as many as the count asks. 6: a value out of range, in a
+/// converged channel or not.
+pub fn subband_update(call: &subband::Call, channels: usize) -> Judged {
+    refuse_if(call.channels as usize != channels, 21)?;
+    let asked = call.flags.len() == channels
+        && call.render.len() == BANDS
+        && call.capture.len() == BANDS * channels
+        && call.residual.len() == BANDS * channels;
+    refuse_if(!asked, 5)?;
+    let lists = [&call.render, &call.capture, &call.residual];
+    refuse_if(!lists.iter().all(|list| in_value_range(list)), 6)
 }
 
 /// Each value is a number from 0, of either sign, to 2^100.

@@ -2,13 +2,15 @@
 
 use crate::judge::Refusal;
 use std::fmt;
+use std::io::Write;
 
 /// A binary32 number as eight capital hexadecimal digits.
 pub struct Hex(pub f32);
 
 impl fmt::Display for Hex {
     fn fmt(&self, f: &mut fmt::Formatter<'_>) -> fmt::Result {
-        write!(f, "{:08X}", self.0.to_bits())
+        let digits = hex_digits(self.0);
+        digits.iter().try_for_each(|&d| write!(f, "{}", d as char))
     }
 }
 
@@ -33,15 +35,34 @@ pub fn fields<T: ToString>(values: impl IntoIterator<Item = T>) -> String {
 /// The lines printed so far, each ended by a line feed.
 #[derive(Default)]
 pub struct Lines {
-    text: String,
+    text: Vec<u8>,
     count: usize,
 }
 
 impl Lines {
     pub fn push(&mut self, line: fmt::Arguments<'_>) {
-        fmt::write(&mut self.text, line).expect("text in memory takes every line");
-        self.text.push('\n');
-        self.count += 1;
+        self.head(line);
+        self.end();
+    }
+
+    /// A line of a head and binary32 numbers. Most of what is printed are such
+    /// numbers, so they do not go through the formatter.
+    pub fn push_hex(&mut self, head: fmt::Arguments<'_>, values: &[f32]) {
+        self.head(head);
+        for &value in values {
+            self.text.push(b' ');
+            self.text.extend(hex_digits(value));
+        }
+        self.end();
+    }
+
+    /// A line of a head and one field of digits, 1 for a flag that is set.
+    pub fn push_flags(&mut self, head: fmt::Arguments<'_>, flags: &[bool]) {
+        self.head(head);
+        self.text.push(b' ');
+        self.text
+            .extend(flags.iter().map(|&flag| b'0' + flag as u8));
+        self.end();
     }
 
     pub fn count(&self) -> usize {
@@ -49,6 +70,24 @@ impl Lines {
     }
 
     pub fn as_bytes(&self) -> &[u8] {
-        self.text.as_bytes()
+        &self.text
     }
+
+    fn head(&mut self, head: fmt::Arguments<'_>) {
+        let written = self.text.write_fmt(head);
+        written.expect("text in memory takes every line");
+    }
+
+    fn end(&mut self) {
+        self.text.push(b'\n');
+        self.count += 1;
+    }
+}
+
+fn hex_digits(value: f32) -> [u8; 8] {
+    let bits = value.to_bits();
+    std::array::from_fn(|place| {
+        let digit = (bits >> (28 - 4 * place) & 15) as u8;
+        digit + if digit < 10 { b'0' } else { b'A' - 10 }
+    })
 }

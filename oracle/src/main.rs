@@ -1,10 +1,11 @@
 //! The oracle: runs scripts of library calls through the published Rust and
-//! compares its lines with those of the replay program.
+//! compares its lines with those of the replay programs.
 
 mod compare;
 mod judge;
 mod kinds;
 mod lines;
+mod program;
 mod record;
 mod run;
 mod scripts;
@@ -16,6 +17,7 @@ mod tests;
 // The published modules `api` and `audio_processing`, see build.rs.
 include!(concat!(env!("OUT_DIR"), "/published.rs"));
 
+use program::Program;
 use std::env;
 use std::fs;
 use std::io::{self, Read, Write};
@@ -23,24 +25,22 @@ use std::path::Path;
 use std::process::ExitCode;
 
 const USAGE: &str = "usage:
-  oracle run < script > lines
+  oracle run PROGRAM < script > lines
   oracle generate NAME [NUMBER] > script
-  oracle compare [REPLAY]
-  oracle samples DIR
-  oracle speed";
-
-const DEFAULT_REPLAY: &str = "target/bin/replay";
+  oracle compare [REPLAY [REPLAY_SUBBAND]]
+  oracle samples PROGRAM DIR
+  oracle speed
+where PROGRAM is replay or replay_subband";
 
 fn main() -> ExitCode {
     let arguments: Vec<String> = env::args().skip(1).collect();
     let words: Vec<&str> = arguments.iter().map(String::as_str).collect();
     let done = match words[..] {
-        ["run"] => run_script(),
+        ["run", program] => run_script(program),
         ["generate", name] => generate(name, None),
         ["generate", name, number] => generate(name, Some(number)),
-        ["compare"] => compare_with(DEFAULT_REPLAY),
-        ["compare", replay] => compare_with(replay),
-        ["samples", folder] => write_samples(Path::new(folder)),
+        ["compare", ref files @ ..] if files.len() <= Program::ALL.len() => compare_with(files),
+        ["samples", program, folder] => write_samples(program, Path::new(folder)),
         ["speed"] => speed(),
         _ => Err(USAGE.to_string()),
     };
@@ -53,40 +53,56 @@ fn main() -> ExitCode {
     }
 }
 
-fn run_script() -> Result<ExitCode, String> {
+fn run_script(program: &str) -> Result<ExitCode, String> {
+    let program = known(program)?;
     let mut script = Vec::new();
     io::stdin().read_to_end(&mut script).map_err(plain)?;
-    print_bytes(run::run(&script).0.as_bytes())
+    print_bytes(run::run(program, &script).0.as_bytes())
+}
+
+fn known(program: &str) -> Result<Program, String> {
+    Program::named(program).ok_or_else(|| USAGE.to_string())
 }
 
 /// Prints one script of a name; the number, from 1, chooses among several.
 fn generate(name: &str, number: Option<&str>) -> Result<ExitCode, String> {
-    let mut scripts = scripts::named(name)
-        .ok_or_else(|| format!("no scripts named {name}; there are {:?}", scripts::NAMES))?;
+    let named = scripts::named(name).ok_or_else(|| {
+        let names = scripts::NAMES.map(|listed| listed.name);
+        format!("no scripts named {name}; there are {names:?}")
+    })?;
+    let scripts = named.scripts();
     let count = scripts.len();
     let chosen = match number {
         Some(text) => text.parse().unwrap_or(0),
         None if count == 1 => 1,
         None => 0,
     };
-    match scripts.nth(usize::wrapping_sub(chosen, 1)) {
-        Some(script) => print_bytes(&script.bytes),
+    match scripts.into_iter().nth(usize::wrapping_sub(chosen, 1)) {
+        Some(make) => print_bytes(&make().bytes),
         None => Err(format!("{name} has scripts 1 to {count}: say which")),
     }
 }
 
-fn compare_with(replay: &str) -> Result<ExitCode, String> {
-    if compare::compare(replay) {
+/// Compares with the programs in these files; one whose file is not said is
+/// sought where it is built.
+fn compare_with(files: &[&str]) -> Result<ExitCode, String> {
+    let built = Program::ALL.map(|program| format!("target/bin/{}", program.name()));
+    let said = |program: Program| match files.get(program as usize) {
+        Some(file) => file,
+        None => &built[program as usize][..],
+    };
+    if compare::compare(said) {
         Ok(ExitCode::SUCCESS)
     } else {
         Ok(ExitCode::FAILURE)
     }
 }
 
-/// Writes the stored sample, a script and its lines.
-fn write_samples(folder: &Path) -> Result<ExitCode, String> {
-    let script = scripts::sample::script().bytes;
-    let (lines, _) = run::run(&script);
+/// Writes a program's stored sample, a script and its lines.
+fn write_samples(program: &str, folder: &Path) -> Result<ExitCode, String> {
+    let program = known(program)?;
+    let script = scripts::stored_sample(program).bytes;
+    let (lines, _) = run::run(program, &script);
     fs::create_dir_all(folder).map_err(plain)?;
     fs::write(folder.join("stdin"), &script).map_err(plain)?;
     fs::write(folder.join("stdout"), lines.as_bytes()).map_err(plain)?;

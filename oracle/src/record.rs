@@ -48,10 +48,15 @@ impl<'a> Fields<'a> {
         Ok(f32::from_bits(self.u32()?))
     }
 
+    /// A flag that is a whole field.
+    pub fn flag(&mut self) -> Result<bool, Malformed> {
+        flag(self.u32()?)
+    }
+
     /// A list of flags, one byte each.
     pub fn flags(&mut self, count: u32) -> Result<Vec<bool>, Malformed> {
         let bytes = take(&mut self.rest, count as usize)?;
-        bytes.iter().map(|&byte| flag(byte)).collect()
+        bytes.iter().map(|&byte| flag(byte.into())).collect()
     }
 
     /// A list of binary32 numbers.
@@ -72,12 +77,24 @@ impl<'a> Fields<'a> {
     }
 }
 
-fn flag(byte: u8) -> Result<bool, Malformed> {
-    match byte {
+fn flag(number: u32) -> Result<bool, Malformed> {
+    match number {
         0 => Ok(false),
         1 => Ok(true),
         _ => Err(Malformed),
     }
+}
+
+/// Adds lists to a body: how many flags there are and how many numbers in each
+/// list, then the flags and the numbers.
+pub fn push_lists(body: &mut Vec<u8>, flags: &[bool], lists: &[&[f32]]) {
+    let counts = lists.iter().map(|list| list.len());
+    for count in [flags.len()].into_iter().chain(counts) {
+        body.extend((count as u32).to_le_bytes());
+    }
+    body.extend(flags.iter().map(|&flag| flag as u8));
+    let values = lists.iter().copied().flatten();
+    body.extend(values.flat_map(|value| value.to_bits().to_le_bytes()));
 }
 
 fn take<'a>(bytes: &mut &'a [u8], count: usize) -> Result<&'a [u8], Malformed> {

@@ -1,7 +1,8 @@
-//! Runs a script through the published Rust.
+//! Runs a program's script through the published Rust.
 
 use crate::kinds::Groups;
 use crate::lines::Lines;
+use crate::program::Program;
 use crate::record::take_record;
 
 /// A run over a script, record by record.
@@ -11,10 +12,10 @@ pub struct Run<'a> {
 }
 
 impl<'a> Run<'a> {
-    pub fn new(script: &'a [u8]) -> Self {
+    pub fn new(program: Program, script: &'a [u8]) -> Self {
         Self {
             rest: script,
-            groups: Groups::new(),
+            groups: Groups::new(program),
         }
     }
 
@@ -35,9 +36,9 @@ impl<'a> Run<'a> {
 }
 
 /// The lines of a whole script, and how many records gave them.
-pub fn run(script: &[u8]) -> (Lines, usize) {
+pub fn run(program: Program, script: &[u8]) -> (Lines, usize) {
     let mut lines = Lines::default();
-    let mut run = Run::new(script);
+    let mut run = Run::new(program, script);
     let mut records = 0;
     while run.step(&mut lines).is_some() {
         records += 1;

@@ -2,19 +2,49 @@
 //! published Rust itself.
 
 mod erl;
+mod subband;
 
 use crate::audio_processing::aec3::signal_dependent_erle_estimator::{
     peek_section_boundaries, peek_section_sizes, peek_subband_map, peek_subband_maxima,
 };
 use crate::judge;
+use crate::program::Program;
+use crate::record::take_record;
 use crate::run::run;
-use crate::scripts::Script;
+use crate::scripts::{named, Script};
 
-/// The lines of a script that one closure fills.
+/// The lines of leaves and ERL for a script that one closure fills.
 fn lines(fill: impl Fn(&mut Script)) -> String {
+    lines_of(Program::Replay, fill)
+}
+
+/// The lines of a program for a script that one closure fills.
+fn lines_of(program: Program, fill: impl Fn(&mut Script)) -> String {
     let mut script = Script::default();
     fill(&mut script);
-    String::from_utf8(run(&script.bytes).0.as_bytes().to_vec()).unwrap()
+    let (lines, _) = run(program, &script.bytes);
+    String::from_utf8(lines.as_bytes().to_vec()).unwrap()
+}
+
+/// A binary32 number from its eight digits.
+fn number(hex: &str) -> f32 {
+    f32::from_bits(u32::from_str_radix(hex, 16).unwrap())
+}
+
+/// How many records of a kind the scripts of a name hold; each is whole and
+/// none is large.
+fn records_of_kind(name: &str, kind: u16) -> usize {
+    let mut records = 0;
+    for make in named(name).unwrap().scripts() {
+        let script = make();
+        assert!(script.bytes.len() < 50_000_000);
+        let mut rest = &script.bytes[..];
+        while let Ok(record) = take_record(&mut rest) {
+            records += (record.kind == kind) as usize;
+        }
+        assert!(rest.is_empty());
+    }
+    records
 }
 
 #[test]

@@ -9,8 +9,10 @@ use lib.Dec.{ltb, eqb}
 use lib.Ieee.{Float, nan}
 use lib.ListN.{length, getD, take, drop, set, length-set, length-drop}
 use lib.Seq.{getD-set-same, getD-set-other, length-take-le}
+use Rattle.aec3_common.specs.Lists.{tab}
 use Rattle.aec3_common.specs.Spectra.{part, innerBand, shownBand, endsCopied}
-use Rattle.aec3_common.proofs.Choices.{and-right}
+use Rattle.aec3_common.proofs.Choices.{and-left, and-right}
+use Rattle.aec3_common.proofs.Tables.{tab-is}
 
 -- the part that code lends, from ch * 65 to 65 further on
 pub lent-part : (spectra : List Float) (ch : ℕ) → take (ch * 65 + 65 - ch * 65) (drop (ch * 65) spectra) ≡ part spectra ch
@@ -34,6 +36,15 @@ shown-inner k h = go (eqb k 0) refl (eqb k 64) refl
         let some : 0 < k = omega (arith, eqb-false k 0 e) in
         let few : k < 64 = omega (arith, eqb-false k 64 f) in
         simp (lt-ltb 0 k some, lt-ltb k 64 few)
+
+-- an inner band shows its own figures
+pub inner-shown : (k : ℕ) → innerBand k ≡ true → shownBand k ≡ k
+inner-shown k e = go (eqb k 0) refl (eqb k 64) refl
+  where
+    go : (a : Bool) → eqb k 0 ≡ a → (z : Bool) → eqb k 64 ≡ z → cond a 1 (cond z 63 k) ≡ k
+    go true f z g = absurd (omega (arith, eqb-true k 0 f, ltb-true 0 k (and-left (ltb 0 k) (ltb k 64) e)))
+    go false f true g = absurd (omega (arith, eqb-true k 64 g, ltb-true k 64 (and-right (ltb 0 k) (ltb k 64) e)))
+    go false f false g = refl
 
 -- after the copying, each band shows its band's value
 pub ends-shown : (s : List Float) (k : ℕ) → length s ≡ 65 → k < 65 → getD (endsCopied s) k nan ≡ getD s (shownBand k) nan
@@ -59,3 +70,15 @@ pub shown-below : (k : ℕ) → k < 65 → shownBand k < 65
 shown-below k h =
     let few : ltb (shownBand k) 64 ≡ true = and-right (ltb 0 (shownBand k)) (ltb (shownBand k) 64) (shown-inner k h) in
     omega (arith, ltb-true (shownBand k) 64 few)
+
+length-ends : (s : List Float) → length s ≡ 65 → length (endsCopied s) ≡ 65
+unfolding endsCopied
+length-ends s h = simp length-set h
+
+-- bands 0 and 64 copy 1 and 63, whatever they were: what bands 1 to 63 hold says what all show
+pub ends-are :
+    (s : List Float) (f : ℕ → Float) → length s ≡ 65
+    → ((k : ℕ) → k < 65 → innerBand k ≡ true → getD s k nan ≡ f k) → endsCopied s ≡ tab 65 (λ k. f (shownBand k))
+ends-are s f long at =
+    tab-is 65 nan (λ k. f (shownBand k)) (endsCopied s) (length-ends s long)
+    (λ k b. ends-shown s k long b ∙ at (shownBand k) (shown-below k b) (shown-inner k b))

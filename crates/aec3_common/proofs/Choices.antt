@@ -25,6 +25,22 @@ pub and-assoc : (a b c : Bool) → (a && b) && c ≡ a && (b && c)
 and-assoc true b c = refl
 and-assoc false b c = refl
 
+-- joined tests that pass, one by one
+pub each-of-three : (a b c : Bool) → a && b && c ≡ true → (a ≡ true) × (b ≡ true) × (c ≡ true)
+each-of-three a b c e =
+    let ab = and-left (a && b) c e in
+    (and-left a b ab, and-right a b ab, and-right (a && b) c e)
+
+pub each-of-four : (a b c d : Bool) → a && b && c && d ≡ true → (a ≡ true) × (b ≡ true) × (c ≡ true) × (d ≡ true)
+each-of-four a b c d e =
+    let (p, q, r) = each-of-three a b c (and-left (a && b && c) d e) in
+    (p, q, r, and-right (a && b && c) d e)
+
+-- what both values have, their choice has
+pub cond-has : {A : Type 0} (P : A → Type 0) (t : Bool) {x y : A} → (t ≡ true → P x) → (t ≡ false → P y) → P (cond t x y)
+cond-has P true p q = p refl
+cond-has P false p q = q refl
+
 -- an equation with a choice, by cases of the test
 pub cond-by : {A : Type 0} (t : Bool) (r x y : A) → (t ≡ true → r ≡ x) → (t ≡ false → r ≡ y) → r ≡ cond t x y
 cond-by true r x y a b = a refl
@@ -34,3 +50,8 @@ cond-by false r x y a b = b refl
 pub passed : (t : Bool) (n later : ℕ) → unless t (suc n) later ≡ 0 → t ≡ true
 passed true n later e = refl
 passed false n later e = absurd (omega arith)
+
+-- and the later tests have passed too
+pub later-passed : (t : Bool) (n later : ℕ) → unless t (suc n) later ≡ 0 → later ≡ 0
+later-passed true n later e = e
+later-passed false n later e = absurd (omega arith)

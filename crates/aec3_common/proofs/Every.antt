@@ -20,6 +20,12 @@ every-at p [] d k e h = absurd (not-suc-le-zero h)
 every-at p (x ∷ xs) d zero e h = and-left (p x) (every p xs) e
 every-at p (x ∷ xs) d (suc k) e h = every-at p xs d k (and-right (p x) (every p xs) e) (le-of-suc-le-suc h)
 
+-- where each entry passes, every one does
+pub every-by : {A : Type 0} (p : A → Bool) (xs : List A) (d : A) → ((k : ℕ) → k < length xs → p (getD xs k d) ≡ true) → every p xs ≡ true
+unfolding every
+every-by p [] d each = refl
+every-by p (x ∷ xs) d each = rw (each 0 (omega arith)) (every-by p xs d (λ k h. each (suc k) (omega arith)))
+
 -- one entry more
 every-more :
     {A : Type 0} (p : A → Bool) (xs : List A) (k : ℕ) (d : A)

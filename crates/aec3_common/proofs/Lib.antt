@@ -9,3 +9,5 @@ pub mod Bands
 pub mod Sums
 pub mod Ranges
 pub mod Rounding
+pub mod Numbers
+pub mod Fitting

@@ -69,29 +69,42 @@ at-most-if-not-above (fin false m e) (fin true n d) p q h = absurd q
 at-most-if-not-above (fin false m e) (fin false n d) p q h =
     at-most (m * up e * down d) (n * up d * down e) (nltb→le (m * up e * down d) (n * up d * down e) h)
 
--- ---- numbers with a minus sign
+-- ---- rounding keeps a sign, and gives a number
 
--- minus infinity, or a finite number with a minus sign
-pub data Minus : Float → Type 0 where
-  infinite : Minus (inf true)
-  finite : (m : ℕ) (e : ℤ) → Minus (fin true m e)
+-- an infinity or a finite number with the sign s
+pub data Signed (s : Bool) : Float → Type 0 where
+  infinite : Signed s (inf s)
+  finite : (m : ℕ) (e : ℤ) → Signed s (fin s m e)
 
-odd-minus : (d q k l : ℕ) → Minus (odd d true q k l)
+abbrev pub Minus : Float → Type 0
+Minus = Signed true
+
+odd-signed : (d : ℕ) (s : Bool) (q k l : ℕ) → Signed s (odd d s q k l)
 unfolding odd
-odd-minus d zero k l = finite zero (pos zero)
-odd-minus d (suc q) k l = finite _ _
+odd-signed d s zero k l = finite zero (pos zero)
+odd-signed d s (suc q) k l = finite _ _
 
-units-minus : (f : Format) (q k : ℕ) → Minus (units f true q k)
+units-signed : (f : Format) (s : Bool) (q k : ℕ) → Signed s (units f s q k)
 unfolding units
-units-minus f q k = either (ltb (q * 2 ^ k) (2 ^ (low f + suc (emax f))))
+units-signed f s q k = either (ltb (q * 2 ^ k) (2 ^ (low f + suc (emax f))))
   where
-    either : (t : Bool) → Minus (cond t (odd (suc (prec f)) true q k (low f)) (inf true))
-    either true = odd-minus (suc (prec f)) q k (low f)
+    either : (t : Bool) → Signed s (cond t (odd (suc (prec f)) s q k (low f)) (inf s))
+    either true = odd-signed (suc (prec f)) s q k (low f)
     either false = infinite
 
--- rounding keeps a minus sign
+pub round-signed : (f : Format) (s : Bool) (a c : ℕ) → Signed s (round f s a c)
+round-signed f s a c = subst (Signed s) (sym (round-is f s a c)) (units-signed f s _ _)
+
 pub round-minus : (f : Format) (a c : ℕ) → Minus (round f true a c)
-round-minus f a c = subst Minus (sym (round-is f true a c)) (units-minus f _ _)
+round-minus f a c = round-signed f true a c
+
+pub signed-number : {s : Bool} {x : Float} → Signed s x → T (not (isNan x))
+unfolding isNan
+signed-number infinite = tt
+signed-number (finite m e) = tt
+
+pub round-number : (f : Format) (s : Bool) (a c : ℕ) → T (not (isNan (round f s a c)))
+round-number f s a c = signed-number (round-signed f s a c)
 
 -- a number with a minus sign is below every positive one
 pub minus-below : {y : Float} → Minus y → (x : Float) → T (positive x) → T (lt y x)
@@ -104,21 +117,3 @@ minus-below (finite n d) (inf s) p = absurd p
 minus-below (finite n d) (fin true m e) p = absurd p
 minus-below (finite n d) (fin false m e) p =
     lt→ltb 0 (n * up d * down e + m * up e * down d) (more-pos (n * up d * down e) (m * up e * down d) (size-pos m e d p))
-
--- ---- rounding gives a number
-
-odd-number : (d : ℕ) (s : Bool) (q k l : ℕ) → T (not (isNan (odd d s q k l)))
-unfolding odd isNan
-odd-number d s zero k l = tt
-odd-number d s (suc q) k l = tt
-
-units-number : (f : Format) (s : Bool) (q k : ℕ) → T (not (isNan (units f s q k)))
-unfolding units isNan
-units-number f s q k = either (ltb (q * 2 ^ k) (2 ^ (low f + suc (emax f))))
-  where
-    either : (t : Bool) → T (not (isNan (cond t (odd (suc (prec f)) s q k (low f)) (inf s))))
-    either true = odd-number (suc (prec f)) s q k (low f)
-    either false = tt
-
-pub round-number : (f : Format) (s : Bool) (a c : ℕ) → T (not (isNan (round f s a c)))
-round-number f s a c = subst (λ (z : Float). T (not (isNan z))) (sym (round-is f s a c)) (units-number f s _ _)

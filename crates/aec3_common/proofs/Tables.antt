@@ -33,6 +33,10 @@ tab-is n d f xs long at =
     ext-getD d xs (tab n f) (long ∙ sym (length-tab n f))
     (λ k b. let h : k < n = subst (λ (m : ℕ). k < m) long b in at k h ∙ sym (getD-tab n f k d h))
 
+-- tables with the same entries are the same
+pub tab-same : {A : Type 0} (n : ℕ) (d : A) (f g : ℕ → A) → ((k : ℕ) → k < n → f k ≡ g k) → tab n f ≡ tab n g
+tab-same n d f g same = tab-is n d g (tab n f) (length-tab n f) (λ k b. getD-tab n f k d b ∙ same k b)
+
 -- What a loop has done at k that stores f k at each k from lo to below hi: r has n entries, those of f from lo to below
 -- k, and those of xs elsewhere.
 pub record Stored {A : Type 0} (n : ℕ) (d : A) (lo hi : ℕ) (f : ℕ → A) (xs r : List A) (k : ℕ) : Type 0 where

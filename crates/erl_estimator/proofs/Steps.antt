@@ -10,14 +10,14 @@ use borrow.Author.Tests.{ltb-true}
 use lib.Dec.{ltb}
 use lib.IntN.{ℤ, pos}
 use lib.Ieee.{Float, nan, inf, fin, binary32, ofBits, div, lt}
-use lib.ListN.{length, getD, take, drop, length-set, drop-of-length-le}
+use lib.ListN.{length, getD, take, drop, drop-of-length-le}
 use lib.Seq.{drop-cons}
 use Rattle.aec3_common.specs.Binary32.{zero32, one32, energyThreshold, larger}
 use Rattle.aec3_common.specs.Lists.{tab}
 use Rattle.aec3_common.specs.Spectra.{part, bandOf, innerBand, shownBand, endsCopied, flagged, greatestFrom}
 use Rattle.aec3_common.proofs.Choices.{and-left, and-right}
-use Rattle.aec3_common.proofs.Bands.{ends-shown, shown-inner, shown-below}
-use Rattle.aec3_common.proofs.Tables.{tab-is, getD-tab, length-tab}
+use Rattle.aec3_common.proofs.Bands.{ends-are, shown-inner}
+use Rattle.aec3_common.proofs.Tables.{tab-is, tab-same, getD-tab, length-tab}
 use Rattle.erl_estimator.specs.declared.figure.Figure.{Figure}
 use Rattle.erl_estimator.specs.declared.reduce.FirstConverged.{FirstConverged}
 use Rattle.erl_estimator.specs.declared.reduce.FirstConverged.the-variants.{Channel, Nothing}
@@ -208,25 +208,12 @@ all-stand (suc (suc (suc n))) some few = absurd (omega arith)
 
 -- ---- the figures of all bands
 
-length-ends : (s : List Float) → length s ≡ 65 → length (endsCopied s) ≡ 65
-unfolding endsCopied
-length-ends s h = simp length-set h
-
 -- bands 0 and 64 copy 1 and 63, whatever they were
 ends-of-inner :
     (f g : ℕ → Float) → endsCopied (tab 65 (λ k. cond (innerBand k) (f k) (g k))) ≡ tab 65 (λ k. f (shownBand k))
 ends-of-inner f g =
     let h : ℕ → Float = λ k. cond (innerBand k) (f k) (g k) in
-    tab-is 65 nan (λ k. f (shownBand k)) (endsCopied (tab 65 h))
-    (length-ends (tab 65 h) (length-tab 65 h))
-    (λ k b.
-    ends-shown (tab 65 h) k (length-tab 65 h) b
-    ∙ getD-tab 65 h (shownBand k) nan (shown-below k b)
-    ∙ simp (shown-inner k b))
-
-tab-same :
-    {A : Type 0} (n : ℕ) (d : A) (f g : ℕ → A) → ((k : ℕ) → k < n → f k ≡ g k) → tab n f ≡ tab n g
-tab-same n d f g same = tab-is n d g (tab n f) (length-tab n f) (λ k b. getD-tab n f k d b ∙ same k b)
+    ends-are (tab 65 h) f (length-tab 65 h) (λ k b e. getD-tab 65 h k nan b ∙ simp e)
 
 -- what stands beside the inner bands is one value
 pub beside-same :

@@ -2,8 +2,8 @@
 
 use crate::audio_processing::aec3::erl_estimator::ErlEstimator;
 use crate::judge::{self, Judged};
-use crate::lines::{fields, Answer, Hex, Lines};
-use crate::record::{Fields, Malformed, Record};
+use crate::lines::{Answer, Lines};
+use crate::record::{push_lists, Fields, Malformed, Record};
 
 pub const START: u16 = 0x0110;
 pub const UPDATE: u16 = 0x0111;
@@ -63,9 +63,9 @@ impl Erl {
     /// The figures of the estimator that stands.
     fn figures(&self, lines: &mut Lines) {
         if let Some(estimator) = &self.estimator {
-            let time_domain = estimator.erl_time_domain();
-            let figures = estimator.erl().iter().copied().chain([time_domain]);
-            lines.push(format_args!("erl {}", fields(figures.map(Hex))));
+            let mut figures = estimator.erl().to_vec();
+            figures.push(estimator.erl_time_domain());
+            lines.push_hex(format_args!("erl"), &figures);
         }
     }
 }
@@ -97,14 +97,9 @@ impl Call {
 
     /// The body that `read` reads.
     pub fn body(&self) -> Vec<u8> {
-        let lengths = [self.flags.len(), self.render.len(), self.capture.len()];
-        let mut body = Vec::new();
-        body.extend(self.captures.to_le_bytes());
+        let mut body = self.captures.to_le_bytes().to_vec();
         body.extend(self.renders.to_le_bytes());
-        body.extend(lengths.iter().flat_map(|&l| (l as u32).to_le_bytes()));
-        body.extend(self.flags.iter().map(|&flag| flag as u8));
-        let values = self.render.iter().chain(&self.capture);
-        body.extend(values.flat_map(|value| value.to_bits().to_le_bytes()));
+        push_lists(&mut body, &self.flags, &[&self.render, &self.capture]);
         body
     }
 

@@ -5,15 +5,15 @@ mod edges;
 mod long;
 mod refused;
 pub mod sample;
-pub mod spectra;
 mod stretches;
+pub mod sums;
 
 use super::random::Random;
-use super::Script;
+use super::spectra::{any_power, Spectrum};
+use super::{Maker, Script};
 use crate::audio_processing::aec3::erl_estimator::ErlEstimator;
 use crate::judge::BANDS;
 use crate::kinds::erl::Call;
-use spectra::{any_power, Spectrum};
 
 /// Every choice of capture and render channels.
 pub const CHANNELS: [(usize, usize); 8] = [
@@ -31,18 +31,22 @@ pub const CHANNELS: [(usize, usize); 8] = [
 const STARTUPS: [u32; 6] = [0, 1, 2, 5, 40, u32::MAX];
 
 /// How many scripts of random stretches there are.
-const STRETCHES: usize = 8;
+const STRETCHES: u64 = 8;
 
-/// The scripts, each made when its turn comes.
-pub fn scripts() -> impl ExactSizeIterator<Item = Script> {
-    let long_runs = CHANNELS.len();
-    (0..3 + long_runs + STRETCHES).map(move |number| match number {
-        0 => refused::script(),
-        1 => edges::edges(),
-        2 => edges::mixtures(),
-        _ if number < 3 + long_runs => long::script(number - 3),
-        _ => stretches::script(number as u64),
-    })
+pub fn scripts() -> Vec<Maker> {
+    let mut makers: Vec<Maker> = vec![
+        Box::new(refused::script),
+        Box::new(edges::edges),
+        Box::new(edges::mixtures),
+    ];
+    for place in 0..CHANNELS.len() {
+        makers.push(Box::new(move || long::script(place)));
+    }
+    let first_seed = makers.len() as u64;
+    for seed in first_seed..first_seed + STRETCHES {
+        makers.push(Box::new(move || stretches::script(seed)));
+    }
+    makers
 }
 
 /// A script that grows beside the published estimator, so that a call can aim
@@ -75,6 +79,10 @@ impl Walk {
     fn update(&mut self, call: &Call) {
         self.script.erl_update(call);
         call.update(&mut self.estimator).ok();
+    }
+
+    fn updates(&mut self, calls: &[Call]) {
+        calls.iter().for_each(|call| self.update(call));
     }
 
     fn reset(&mut self) {
@@ -136,15 +144,4 @@ fn share(random: &mut Random, channels: usize, greatest: &Spectrum) -> Vec<Spect
         }
     }
     shares
-}
-
-/// Flags at random, at least one of them set.
-fn converged(random: &mut Random, captures: usize) -> Vec<bool> {
-    let mask = 1 + random.below((1 << captures) - 1);
-    mask_flags(mask, captures)
-}
-
-/// The flags that are the low bits of a mask.
-fn mask_flags(mask: u32, captures: usize) -> Vec<bool> {
-    (0..captures).map(|at| mask >> at & 1 == 1).collect()
 }

@@ -1,30 +1,79 @@
 //! Scripts made by name, the same on every run.
 
+mod damage;
 mod damaged;
 pub mod erl;
+mod faults;
+pub mod flags;
 mod leaves;
 pub mod random;
-pub mod sample;
+mod sample;
+pub mod spectra;
+pub mod subband;
 
 use crate::kinds;
-use std::iter::once_with;
+use crate::program::Program;
 
-/// The names under which scripts are made.
-pub const NAMES: [&str; 5] = ["log2", "ring", "sections", "erl", "damaged"];
+/// Makes a script.
+pub type Maker = Box<dyn FnOnce() -> Script>;
 
-/// Scripts of one name. Large ones are made only when their turn comes.
-pub type Scripts = Box<dyn ExactSizeIterator<Item = Script>>;
+/// A name under which scripts are made, all for one program.
+pub struct Name {
+    pub name: &'static str,
+    pub program: Program,
+    make: fn() -> Vec<Maker>,
+}
 
-/// The scripts of a name, or none for an unknown name.
-pub fn named(name: &str) -> Option<Scripts> {
-    match name {
-        "log2" => Some(Box::new(once_with(leaves::log2))),
-        "ring" => Some(Box::new(once_with(leaves::ring))),
-        "sections" => Some(Box::new(once_with(leaves::sections))),
-        "erl" => Some(Box::new(erl::scripts())),
-        "damaged" => Some(Box::new(damaged::scripts().into_iter())),
-        _ => None,
+impl Name {
+    const fn new(name: &'static str, program: Program, make: fn() -> Vec<Maker>) -> Self {
+        Self {
+            name,
+            program,
+            make,
+        }
     }
+
+    /// The scripts of the name. Large ones are made only when they are asked
+    /// for.
+    pub fn scripts(&self) -> Vec<Maker> {
+        (self.make)()
+    }
+}
+
+pub const NAMES: [Name; 7] = [
+    Name::new("log2", Program::Replay, || vec![Box::new(leaves::log2)]),
+    Name::new("ring", Program::Replay, || vec![Box::new(leaves::ring)]),
+    Name::new("sections", Program::Replay, || {
+        vec![Box::new(leaves::sections)]
+    }),
+    Name::new("erl", Program::Replay, erl::scripts),
+    Name::new("damaged", Program::Replay, || made(damaged::scripts())),
+    Name::new("subband", Program::ReplaySubband, subband::scripts),
+    Name::new("damaged_subband", Program::ReplaySubband, || {
+        made(subband::damaged::scripts())
+    }),
+];
+
+pub fn named(name: &str) -> Option<&'static Name> {
+    NAMES.iter().find(|listed| listed.name == name)
+}
+
+/// Small scripts, made already.
+fn made(scripts: Vec<Script>) -> Vec<Maker> {
+    let maker = |script| -> Maker { Box::new(move || script) };
+    scripts.into_iter().map(maker).collect()
+}
+
+/// The script of a program's stored sample.
+pub fn stored_sample(program: Program) -> Script {
+    match program {
+        Program::Replay => sample::script(),
+        Program::ReplaySubband => subband::sample::script(),
+    }
+}
+
+fn field_bytes(fields: &[u32]) -> Vec<u8> {
+    fields.iter().flat_map(|f| f.to_le_bytes()).collect()
 }
 
 /// A script as it grows.
@@ -52,18 +101,39 @@ impl Script {
     }
 
     pub fn erl_update(&mut self, call: &kinds::erl::Call) {
-        let body = call.body();
-        self.framed(2 + body.len() as u32, kinds::erl::UPDATE, &body);
+        self.whole(kinds::erl::UPDATE, &call.body());
     }
 
     pub fn erl_reset(&mut self) {
         self.record(kinds::erl::RESET, &[]);
     }
 
+    pub fn subband_start(&mut self, start: &kinds::subband::Start) {
+        self.record(kinds::subband::START, &start.body());
+    }
+
+    pub fn subband_update(&mut self, call: &kinds::subband::Call) {
+        self.whole(kinds::subband::UPDATE, &call.body());
+    }
+
+    pub fn subband_reset(&mut self) {
+        self.record(kinds::subband::RESET, &[]);
+    }
+
+    /// The same update so many times.
+    pub fn subband_repeat(&mut self, times: u32, call: &kinds::subband::Call) {
+        let body = [field_bytes(&[times]), call.body()].concat();
+        self.whole(kinds::subband::REPEAT, &body);
+    }
+
     /// A record whose body is these fields.
-    fn record(&mut self, kind: u16, body: &[u32]) {
-        let body: Vec<u8> = body.iter().flat_map(|field| field.to_le_bytes()).collect();
-        self.framed(2 + body.len() as u32, kind, &body);
+    pub fn record(&mut self, kind: u16, body: &[u32]) {
+        self.whole(kind, &field_bytes(body));
+    }
+
+    /// A record with its right length.
+    pub fn whole(&mut self, kind: u16, body: &[u8]) {
+        self.framed(2 + body.len() as u32, kind, body);
     }
 
     /// A record with the length as said, whatever its body's.
@@ -71,5 +141,19 @@ impl Script {
         self.bytes.extend(length.to_le_bytes());
         self.bytes.extend(kind.to_le_bytes());
         self.bytes.extend(body);
+    }
+
+    /// The script up to a byte.
+    fn cut(&self, end: usize) -> Self {
+        Self {
+            bytes: self.bytes[..end].to_vec(),
+        }
+    }
+
+    /// The script with one byte changed to any other.
+    fn changed(&self, at: usize, random: &mut random::Random) -> Self {
+        let mut script = self.clone();
+        script.bytes[at] ^= 1 + random.below(255) as u8;
+        script
     }
 }

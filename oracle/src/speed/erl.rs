@@ -1,6 +1,6 @@
 //! The speed of ERL updates.
 
-use super::measure;
+use super::{measure, spectra, BLOCKS, ROUNDS};
 use crate::audio_processing::aec3::erl_estimator::ErlEstimator;
 use crate::judge::BANDS;
 use crate::scripts::random::Random;
@@ -23,9 +23,6 @@ extern "C" {
     ) -> f32;
 }
 
-const BLOCKS: usize = 250;
-const ROUNDS: usize = 200;
-
 pub fn speed() -> Result<(), String> {
     for captures in [1, 4] {
         for renders in [1, 2] {
@@ -33,7 +30,7 @@ pub fn speed() -> Result<(), String> {
                 let blocks = Blocks::new(captures, renders, mixed);
                 let flags = if mixed { "mixed" } else { "converged" };
                 let name = format!("erl {captures} captures {renders} renders {flags}");
-                measure(&name, BLOCKS * ROUNDS, || blocks.rust(), || blocks.port())?;
+                measure(&name, || blocks.rust(), || blocks.port())?;
             }
         }
     }
@@ -53,17 +50,8 @@ impl Blocks {
     /// to somewhat above. Mixed flags are set at random, and now and then none.
     fn new(captures: usize, renders: usize, mixed: bool) -> Self {
         let mut random = Random::new(30);
-        let mut spectra = |channels: usize, least: i32, exponents: u32| {
-            let mut value = |_| {
-                let exponent = least + random.below(exponents) as i32;
-                random.octave(exponent)
-            };
-            (0..BLOCKS * channels)
-                .map(|_| std::array::from_fn(&mut value))
-                .collect()
-        };
-        let render = spectra(renders, 22, 8);
-        let capture = spectra(captures, 18, 13);
+        let render = spectra(&mut random, BLOCKS * renders, 22, 8);
+        let capture = spectra(&mut random, BLOCKS * captures, 18, 13);
         let flags = (0..BLOCKS * captures).map(|_| !mixed || random.below(2) == 0);
         Self {
             captures,

@@ -1,22 +1,19 @@
 //! Readings of the ERL steps, asked of the published Rust.
 
-use super::lines;
+use super::{lines, number, records_of_kind};
 use crate::judge::BANDS;
 use crate::kinds::erl::{Call, UPDATE};
-use crate::record::take_record;
-use crate::scripts::erl::spectra::{SUM_T, T};
+use crate::program::Program;
+use crate::scripts::erl::sums::SUM_T;
 use crate::scripts::erl::{call, flat};
-use crate::scripts::{named, sample, Script};
-
-/// A render above both thresholds.
-const LOUD: f32 = 67_108_864.0;
+use crate::scripts::spectra::{LOUD, T};
+use crate::scripts::{stored_sample, Script};
 
 /// The figures after a script's last call: band 32 and the time domain.
 fn last_figures(fill: impl Fn(&mut Script)) -> (f32, f32) {
     let text = lines(fill);
     let figures: Vec<&str> = text.lines().last().unwrap().split(' ').collect();
     assert_eq!(figures.len(), 1 + BANDS + 1);
-    let number = |hex| f32::from_bits(u32::from_str_radix(hex, 16).unwrap());
     (number(figures[1 + 32]), number(figures[1 + BANDS]))
 }
 
@@ -146,9 +143,7 @@ fn a_flag_byte_above_one_is_malformed() {
     let text = lines(|script| {
         let mut body = silent().body();
         body[20] = 2;
-        script.bytes.extend((2 + body.len() as u32).to_le_bytes());
-        script.bytes.extend(UPDATE.to_le_bytes());
-        script.bytes.extend(body);
+        script.whole(UPDATE, &body);
         script.erl_reset();
     });
     assert_eq!(text, "bad\n");
@@ -156,19 +151,10 @@ fn a_flag_byte_above_one_is_malformed() {
 
 #[test]
 fn the_scripts_hold_two_hundred_thousand_updates() {
-    let mut updates = 0;
-    for script in named("erl").unwrap() {
-        assert!(script.bytes.len() < 50_000_000);
-        let mut rest = &script.bytes[..];
-        while let Ok(record) = take_record(&mut rest) {
-            updates += (record.kind == UPDATE) as u32;
-        }
-        assert!(rest.is_empty());
-    }
-    assert!(updates >= 200_000);
+    assert!(records_of_kind("erl", UPDATE) >= 200_000);
 }
 
 #[test]
 fn the_sample_is_small() {
-    assert!(sample::script().bytes.len() <= 200_000);
+    assert!(stored_sample(Program::Replay).bytes.len() <= 200_000);
 }

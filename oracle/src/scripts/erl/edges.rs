@@ -1,12 +1,11 @@
 //! Calls at the thresholds, and every mixture of flags.
 
-use super::spectra::{
-    any_power, beside, powers, sum, with_sum, with_tied_sum, Power, Spectrum, LEAST_ERL, SPECIALS,
-    SUM_T, T,
-};
-use super::{converged, flat, mask_flags, spread, Walk, CHANNELS, STARTUPS};
+use super::sums::{sum, with_sum, with_tied_sum, LEAST_ERL, SUM_T};
+use super::{flat, spread, Walk, CHANNELS, STARTUPS};
 use crate::judge::BANDS;
+use crate::scripts::flags::{converged, mask_flags};
 use crate::scripts::random::Random;
+use crate::scripts::spectra::{any_power, beside, powers, Power, Spectrum, SPECIALS, T};
 use crate::scripts::Script;
 
 /// How many spectra are made for one sum.

@@ -1,14 +1,13 @@
 //! Runs long enough for holds to run out and for the ERL to double up to its
 //! greatest value.
 
-use super::spectra::{any_power, power, powers, Power, Spectrum, LEAST_ERL};
-use super::{converged, spread, Walk, CHANNELS, STARTUPS};
+use super::sums::LEAST_ERL;
+use super::{spread, Walk, CHANNELS, STARTUPS};
 use crate::judge::{BANDS, GREATEST_VALUE};
+use crate::scripts::flags::converged;
 use crate::scripts::random::Random;
+use crate::scripts::spectra::{any_power, power, powers, Power, Spectrum, LOUD};
 use crate::scripts::Script;
-
-/// A render above both thresholds. As a power of 2 it makes ratios exact.
-const LOUD: f32 = 67_108_864.0;
 
 /// A run with the channels of this place in `CHANNELS`.
 pub fn script(place: usize) -> Script {

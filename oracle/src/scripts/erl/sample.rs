@@ -2,10 +2,11 @@
 
 use super::edges::spectra_about_the_sum;
 use super::refused::{good_call, COUNTS, LENGTHS, VALUES};
-use super::spectra::{any_power, beside, powers, Power, SPECIALS, T};
-use super::{converged, flat, mask_flags, spread, Walk, CHANNELS};
+use super::{flat, spread, Walk, CHANNELS};
 use crate::judge::BANDS;
+use crate::scripts::flags::{converged, mask_flags};
 use crate::scripts::random::Random;
+use crate::scripts::spectra::{any_power, beside, powers, Power, SPECIALS, T};
 use crate::scripts::Script;
 
 /// Adds the ERL calls to what stands in a script.

@@ -1,11 +1,14 @@
 //! Random calls, in stretches of one manner each.
 
 use super::edges::spectra_about_the_sum;
-use super::refused::spoil;
-use super::spectra::{any_power, powers, Power, Spectrum, LEAST_ERL, POWERS};
-use super::{converged, mask_flags, spread, Walk, CHANNELS, STARTUPS};
+use super::refused::FAULTS;
+use super::sums::LEAST_ERL;
+use super::{spread, Walk, CHANNELS, STARTUPS};
 use crate::judge::{BANDS, GREATEST_VALUE};
+use crate::scripts::faults::spoil;
+use crate::scripts::flags::Flags;
 use crate::scripts::random::Random;
+use crate::scripts::spectra::{any_power, beside, powers, Power, Spectrum, POWERS};
 use crate::scripts::Script;
 
 const UPDATES: u32 = 18_000;
@@ -62,14 +65,6 @@ const RATIOS: [Ratio; 5] = [
     Ratio::Free,
 ];
 
-#[derive(Clone, Copy)]
-enum Flags {
-    All,
-    Some,
-    Any,
-    None,
-}
-
 struct Stretch {
     calls: u32,
     captures: usize,
@@ -108,24 +103,15 @@ impl Stretch {
 
     /// One call, now and then spoilt, and now and then a reset after it.
     fn step(&self, random: &mut Random, walk: &mut Walk) {
-        let flags = self.flags(random);
+        let flags = self.flags.draw(random, self.captures);
         let (render, capture) = self.spectra(random, walk);
         let mut call = spread(random, &flags, self.renders, &render, &capture);
         if random.below(64) == 0 {
-            spoil(random, &mut call);
+            spoil(random, &mut call, &FAULTS);
         }
         walk.update(&call);
         if random.below(300) == 0 {
             walk.reset();
-        }
-    }
-
-    fn flags(&self, random: &mut Random) -> Vec<bool> {
-        match self.flags {
-            Flags::All => vec![true; self.captures],
-            Flags::Some => converged(random, self.captures),
-            Flags::Any => mask_flags(random.u32(), self.captures),
-            Flags::None => vec![false; self.captures],
         }
     }
 
@@ -178,5 +164,5 @@ fn aimed_at_time_domain(random: &mut Random, erl: f32) -> (Spectrum, Spectrum) {
 }
 
 fn about(random: &mut Random, figure: f32) -> f32 {
-    random.one_of(&[figure.next_down(), figure, figure.next_up()])
+    random.one_of(&beside(figure))
 }

@@ -1,18 +1,16 @@
-//! Values and spectra at which the ERL steps turn.
+//! Values and spectra at which the estimators' steps turn.
 
 use crate::judge::{BANDS, GREATEST_VALUE};
 use crate::scripts::random::Random;
 
 pub type Spectrum = [f32; BANDS];
 
-/// A render band counts above this.
+/// The threshold of a render band.
 pub const T: f32 = 44_015_068.0;
 
-/// A render sum counts above this, T times 65 rounded.
-pub const SUM_T: f32 = 2_860_979_456.0;
-
-/// The least ERL.
-pub const LEAST_ERL: f32 = 0.01;
+/// A render above the threshold, and in all bands above that of a sum. As a
+/// power of 2 it makes ratios exact.
+pub const LOUD: f32 = 67_108_864.0;
 
 /// Zeros, subnormals, the least normal number and the greatest accepted values.
 pub const SPECIALS: [f32; 8] = [
@@ -85,38 +83,4 @@ pub fn powers(random: &mut Random, how: Power) -> Spectrum {
         0 => any_power(random),
         _ => power(random, how),
     })
-}
-
-/// The sum from band 0 on, each addition rounded.
-pub fn sum(spectrum: &Spectrum) -> f32 {
-    spectrum.iter().fold(0.0, |sum, value| sum + value)
-}
-
-/// A spectrum about T with this sum, which lies not far below 65 times T or
-/// above it. The last band makes up what the others leave; as they give more
-/// than half, the difference is exact.
-pub fn with_sum(random: &mut Random, target: f32) -> Spectrum {
-    loop {
-        let mut spectrum = [0.0; BANDS];
-        spectrum[..BANDS - 1].fill_with(|| T * (0.3 + 1.1 * random.unit()));
-        let given = sum(&spectrum);
-        if target / 2.0 <= given && given <= target {
-            spectrum[BANDS - 1] = target - given;
-            assert_eq!(sum(&spectrum), target);
-            return spectrum;
-        }
-    }
-}
-
-/// As `with_sum`, but the exact sum at the last band lies half a step above the
-/// target, and the rounded one is the even of its two neighbours.
-pub fn with_tied_sum(random: &mut Random, target: f32) -> Spectrum {
-    let mut spectrum = with_sum(random, target);
-    spectrum[BANDS - 1] += (target.next_up() - target) / 2.0;
-    let even = match target.to_bits() % 2 {
-        0 => target,
-        _ => target.next_up(),
-    };
-    assert_eq!(sum(&spectrum), even);
-    spectrum
 }

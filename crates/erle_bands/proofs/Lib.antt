@@ -1,0 +1,4 @@
+pub mod Bands
+pub mod Constants
+pub mod Range
+pub mod Rest

@@ -1,0 +1,234 @@
+-- The range that a band's streams keep, and the size that its sums keep.
+use mathlib.Core.Path.{_≡_, refl, sym, _∙_, subst}
+use mathlib.Core.Bool.{Bool, true, false, cond, false≢true}
+use Prim.Native.Nat.{ℕ, zero, suc, _+_, _*_, _^_, _≤_, _<_}
+use native.Mathlib.Nat.{lt-of-lt-of-le, mul-one, mul-assoc, suc-mul, mul-lt-mul-of-pos-right}
+use native.Mathlib.Omega.{arith}
+use borrow.Author.Tests.{leb-true, le-leb}
+use lib.Dec.{T, lit<, lit≤}
+use lib.IntN.{ℤ, pos, negsuc, -ℤ-one}
+use lib.Pow.{pow-pos}
+use lib.Signed.{leZ}
+use lib.Ieee.{Float, nan, inf, fin, binary32, ofBits, mul, lt, le, fits}
+use lib.Ieee.Exact.{round-exact}
+use lib.Ieee.Fits.{add-fits, mul-fits}
+use lib.Ieee.Positive.{positive, above, above-of-le, between, le-trans-positive}
+use Rattle.aec3_common.specs.Binary32.{zero32, one32, larger, moved}
+use Rattle.aec3_common.specs.Counts.{fallen}
+use Rattle.aec3_common.specs.Settings.{greatestErle}
+use Rattle.aec3_common.proofs.Choices.{cond-has}
+use Rattle.aec3_common.proofs.Fitting.{Between, level, clamped-between, times-at-most}
+use Rattle.aec3_common.proofs.Numbers.{number, UpTo, upTo, Value, Whole, add-up-to, ratio-plus, moved-number}
+use Rattle.aec3_common.proofs.Rounding.{Signed}
+use Rattle.erle_bands.specs.Band.{shareUp, shareDown, decayFactor, share, streamMoved, Core, emptied, added, hasRatio, ratio, learnt, Onset, onsetLearnt, decayed, oneBlockLess}
+
+-- ---- a minimum and a maximum
+
+-- 1 ≤ min ≤ max ≤ 100,000, and binary32 holds both
+pub record InOrder (min max : Float) : Type 0 where
+  pub from : T (le one32 min)
+  pub order : T (le min max)
+  pub to : T (le max greatestErle)
+  pub minHeld : T (fits binary32 min)
+  pub maxHeld : T (fits binary32 max)
+
+-- a number above zero that is at most one of at most 100,000 is finite
+at-most-finite : (a b : Float) → T (above a) → T (le a b) → T (le b greatestErle) → T (positive a)
+unfolding le ofBits
+at-most-finite nan b p h k = p
+at-most-finite (inf true) b p h k = p
+at-most-finite (inf false) nan p h k = h
+at-most-finite (inf false) (inf true) p h k = h
+at-most-finite (inf false) (inf false) p h k = k
+at-most-finite (inf false) (fin t n d) p h k = h
+at-most-finite (fin true m e) b p h k = p
+at-most-finite (fin false m e) b p h k = p
+
+pub one-positive : T (positive one32)
+unfolding ofBits
+one-positive = tt
+
+most-positive : T (positive greatestErle)
+unfolding ofBits
+most-positive = tt
+
+module _ {min max : Float} (limits : InOrder min max) where
+  pub min-positive : T (positive min)
+  min-positive = at-most-finite min max (above-of-le one32 min one-positive (limits .from)) (limits .order) (limits .to)
+
+  pub max-positive : T (positive max)
+  max-positive = between min max greatestErle min-positive most-positive (limits .order) (limits .to)
+
+  -- the uncapped stream's limits
+  pub uncapped-in-order : InOrder min greatestErle
+  unfolding ofBits le fits
+  uncapped-in-order =
+      record {
+        from = limits .from;
+        order = le-trans-positive min max greatestErle min-positive max-positive tt (limits .order) (limits .to);
+        to = tt;
+        minHeld = limits .minHeld;
+        maxHeld = tt;
+      }
+
+  pub min-between : Between min max min
+  min-between = record { least = level min min-positive; most = limits .order; held = limits .minHeld }
+
+  module _ {x : Float} (b : Between min max x) where
+    pub between-positive : T (positive x)
+    between-positive = between min x max min-positive max-positive (b .least) (b .most)
+
+    pub between-erle : T (le x greatestErle)
+    between-erle = le-trans-positive x max greatestErle between-positive max-positive most-positive (b .most) (limits .to)
+
+    -- a stream that moves towards a ratio keeps its range
+    pub moved-between : {new : Float} (low : Bool) → Signed false new → Between min max (streamMoved min max new low x)
+    unfolding streamMoved moved ofBits
+    moved-between {new} low plus =
+        clamped-between min max (moved x new (share new low x)) min-positive max-positive (limits .order) (limits .minHeld) (limits .maxHeld)
+        (go (lt new x) refl low)
+        (add-fits binary32 x (mul binary32 (share new low x) _))
+      where
+        go : (less : Bool) → lt new x ≡ less → (l : Bool) → T (number (moved x new (cond less (cond l zero32 shareDown) shareUp)))
+        go true e true = moved-number 0 (pos 0) x between-positive between-erle plus (λ z. e)
+        go true e false = moved-number 13421773 (negsuc 26) x between-positive between-erle plus (λ z. e)
+        go false e l = moved-number 13421773 (negsuc 27) x between-positive between-erle plus (λ z. absurd (false≢true z))
+
+    -- 0.97 times a number is not above it
+    pub decay-at-most : T (le (mul binary32 decayFactor x) x)
+    unfolding ofBits
+    decay-at-most = times-at-most decayFactor x tt (lit≤ tt) between-positive (b .held)
+
+-- ---- what only converged blocks move
+
+-- After n points each sum is at most n times 2^100, and the two streams are in their ranges.
+pub record CoreKept (n : ℕ) (min max : Float) (c : Core) : Type 0 where
+  pub capture : UpTo (n * 2 ^ 100) (c .capture)
+  pub residual : UpTo (n * 2 ^ 100) (c .residual)
+  pub plain : Between min max (c .plain)
+  pub uncapped : Between min greatestErle (c .uncapped)
+
+-- binary32 holds the bounds of up to six points
+whole-bound : (n : ℕ) → n ≤ 6 → Whole (n * 2 ^ 100)
+whole-bound n few =
+    let fewer : n < 7 = omega arith in
+    round-exact binary32 false (n * 2 ^ 100) 1 n 249 (lit< tt) (omega arith)
+    (lt-of-lt-of-le (mul-lt-mul-of-pos-right fewer (pow-pos 249)) (lit≤ tt))
+    (mul-assoc n (2 ^ 100) (2 ^ 149) ∙ sym (mul-one (n * 2 ^ 249)))
+
+-- the sum of no points
+pub no-sum : UpTo 0 zero32
+unfolding ofBits
+no-sum = upTo 0 (pos 0) (lit≤ tt)
+
+pub emptied-kept : {n : ℕ} {min max : Float} {c : Core} → CoreKept n min max c → CoreKept 0 min max (emptied c)
+unfolding emptied
+emptied-kept kept = record { capture = no-sum; residual = no-sum; plain = kept .plain; uncapped = kept .uncapped }
+
+pub added-kept :
+    {n : ℕ} {min max : Float} {c : Core} (render : Float) {capture residual : Float}
+    → n < 6 → Value (2 ^ 100) capture → Value (2 ^ 100) residual
+    → CoreKept n min max c → CoreKept (suc n) min max (added render capture residual c)
+unfolding added
+added-kept {n} render few capture residual kept =
+    let whole : Whole (n * 2 ^ 100 + 2 ^ 100) = rw suc-mul at (whole-bound (suc n) few) in
+    record {
+      capture = rw suc-mul (add-up-to (n * 2 ^ 100) (2 ^ 100) (kept .capture) capture whole);
+      residual = rw suc-mul (add-up-to (n * 2 ^ 100) (2 ^ 100) (kept .residual) residual whole);
+      plain = kept .plain;
+      uncapped = kept .uncapped;
+    }
+
+-- a band's ratio has a plus sign
+pub ratio-signed : {n : ℕ} {min max : Float} {c : Core} → hasRatio c ≡ true → CoreKept n min max c → Signed false (ratio c)
+ratio-signed {c = c} some kept = ratio-plus (kept .capture) (c .residual) some
+
+pub learnt-kept :
+    {n : ℕ} {min max : Float} {c : Core} → InOrder min max → hasRatio c ≡ true
+    → CoreKept n min max c → CoreKept n min max (learnt min max c)
+unfolding learnt
+learnt-kept {c = c} limits some kept =
+    let plus = ratio-signed some kept in
+    record {
+      capture = kept .capture;
+      residual = kept .residual;
+      plain = moved-between limits (kept .plain) (c .low) plus;
+      uncapped = moved-between (uncapped-in-order limits) (kept .uncapped) (c .low) plus;
+    }
+
+-- ---- what every block moves
+
+-- a hold is at most n
+abbrev pub AtMost : ℕ → ℤ → Type 0
+AtMost n h = leZ h (pos n) ≡ true
+
+-- compensated ERLE and onset value are in range, and the hold is at most 250
+pub record OnsetKept (min max : Float) (o : Onset) : Type 0 where
+  pub compensated : Between min max (o .compensated)
+  pub onset : Between min max (o .onset)
+  pub hold : AtMost 250 (o .hold)
+
+pub onset-learnt-kept :
+    {min max new : Float} (low : Bool) {o : Onset} → InOrder min max → Signed false new
+    → OnsetKept min max o → OnsetKept min max (onsetLearnt min max new low o)
+unfolding onsetLearnt
+onset-learnt-kept low limits plus kept =
+    record {
+      compensated = moved-between limits (kept .compensated) low plus;
+      onset = kept .onset;
+      hold = cond-has (AtMost 250) low (λ e. kept .hold) (λ e. refl);
+    }
+
+-- a hold of at most n falls to one less at most
+pub fallen-at-most : (h : ℤ) (n m : ℕ) → AtMost n h → n ≤ suc m → AtMost m (fallen h)
+unfolding fallen
+fallen-at-most (pos zero) n m e l = refl
+fallen-at-most (pos (suc k)) n m e l =
+    subst (AtMost m) (sym (-ℤ-one (pos (suc k)))) (le-leb k m (omega (arith, leb-true (suc k) n e)))
+fallen-at-most (negsuc k) n m e l = cond-has (AtMost m) (leZ (negsuc k) (negsuc 2147483647)) (λ t. refl) (λ t. refl)
+
+below-at-most : (x y : Float) → lt x y ≡ true → T (le x y)
+unfolding le
+below-at-most x y e = rw e tt
+
+pub decay-positive : T (positive decayFactor)
+unfolding ofBits
+decay-positive = tt
+
+module _ {min max onset x : Float} (limits : InOrder min max) (o : Between min max onset) (b : Between min max x) where
+  -- 0.97 times a number is above zero if it is above the onset value
+  pub decay-above : lt onset (mul binary32 decayFactor x) ≡ true → T (positive (mul binary32 decayFactor x))
+  decay-above e =
+      between onset (mul binary32 decayFactor x) x (between-positive limits o) (between-positive limits b)
+      (below-at-most onset (mul binary32 decayFactor x) e) (decay-at-most limits b)
+
+  -- a value that decays keeps its range
+  pub decayed-between : Between min max (decayed min onset x)
+  unfolding decayed larger
+  decayed-between =
+      cond-has (Between min max) (lt onset x)
+      (λ above. cond-has (Between min max) (lt (larger onset d) min) (λ low. min-between limits) (λ high. cond-has (Between min max) (lt onset d) slower (λ e. o)))
+      (λ below. b)
+    where
+      d : Float
+      d = mul binary32 decayFactor x
+
+      slower : lt onset d ≡ true → Between min max d
+      slower e =
+          let p = decay-above e in
+          record {
+            least = le-trans-positive min onset d (min-positive limits) (between-positive limits o) p (o .least) (below-at-most onset d e);
+            most = le-trans-positive d x max p (between-positive limits b) (max-positive limits) (decay-at-most limits b) (b .most);
+            held = mul-fits binary32 decayFactor x;
+          }
+
+pub one-block-less-kept : {min max : Float} {o : Onset} → InOrder min max → OnsetKept min max o → OnsetKept min max (oneBlockLess min o)
+unfolding oneBlockLess
+one-block-less-kept {min} {max} {o} limits kept =
+    record {
+      compensated =
+          cond-has (Between min max) (leZ (fallen (o .hold)) (pos 150)) (λ e. decayed-between limits (kept .onset) (kept .compensated)) (λ e. kept .compensated);
+      onset = kept .onset;
+      hold =
+          cond-has (AtMost 250) (leZ (fallen (o .hold)) (pos 0)) (λ e. refl) (λ e. fallen-at-most (o .hold) 250 250 (kept .hold) (lit≤ tt));
+    }

@@ -1,0 +1,173 @@
+-- What a state keeps over any list of calls.
+use mathlib.Core.Path.{_≡_, refl, sym, _∙_, subst}
+use mathlib.Core.Bool.{Bool, true, cond, _&&_}
+use mathlib.Core.List.{List, [], _∷_}
+use Prim.Native.Nat.{ℕ, _+_, _*_, _^_, _≤_, _<_}
+use native.Mathlib.Omega.{arith}
+use borrow.Author.Tests.{eqb-true, lt-ltb}
+use lib.Dec.{ltb, eqb}
+use lib.Ieee.{Float, nan, le}
+use lib.ListN.{length, getD}
+use lib.Seq.{getD-take, getD-drop}
+use Rattle.aec3_common.specs.Binary32.{one32, greatestValue, within, valuesOk}
+use Rattle.aec3_common.specs.Refusal.{unless, accepted}
+use Rattle.aec3_common.specs.Settings.{greatestErle, limitsOk, captureChannelsOk}
+use Rattle.aec3_common.specs.Spectra.{part}
+use Rattle.aec3_common.proofs.Choices.{and-left, and-right, each-of-three, each-of-four, cond-has, passed, later-passed}
+use Rattle.aec3_common.proofs.Every.{every-at}
+use Rattle.aec3_common.proofs.Numbers.{Value, value-within}
+use Rattle.aec3_common.proofs.Ranges.{to-hi}
+use Rattle.aec3_common.proofs.Rounding.{holds}
+use Rattle.aec3_common.proofs.Tables.{getD-tab}
+use Rattle.filter_sections.specs.Subbands.{maxErle}
+use Rattle.erle_bands.proofs.Range.{InOrder}
+use Rattle.subband_erle_estimator.specs.declared.channel.SubbandSettings.{SubbandSettings}
+use Rattle.subband_erle_estimator.specs.declared.SubbandErleEstimator.{SubbandErleEstimator}
+use Rattle.subband_erle_estimator.specs.Channel.{fresh, channelAfter}
+use Rattle.subband_erle_estimator.specs.Subband.{settingsRefusal, stateOk, lengthsOk, updateRefusal, resetRefusal, started, startAnswer, resetAnswer, noChannel, channelAt, blockOf, updated, updateAnswer}
+use Rattle.subband_erle_estimator.specs.Resting.{Call, update, reset, answer, run, InBinary32}
+use Rattle.subband_erle_estimator.proofs.Channels.{AllInOrder, ChannelKept, fresh-kept, after-kept}
+
+-- ---- settings
+
+-- every band has a minimum and a maximum, and there are at most four channels
+pub record SettingsOk (g : SubbandSettings) : Type 0 where
+  pub limits : AllInOrder g
+  pub channels : g .«num_capture_channels» ≤ 4
+
+-- the settings of an accepted start
+pub settings-ok : (g : SubbandSettings) → InBinary32 g → startAnswer g .refused ≡ accepted → SettingsOk g
+unfolding startAnswer settingsRefusal maxErle
+settings-ok g inBinary32 e =
+    let limits = limitsOk (g .min) (g .«max_l») (g .«max_h») in
+    let channels = captureChannelsOk (g .«num_capture_channels») in
+    let capped = le (g .«max_h») greatestErle in
+    let lower = le one32 (g .min) && le (g .min) (g .«max_l») && le (g .min) (g .«max_h») && le (g .«max_l») greatestErle in
+    let all : lower && capped ≡ true = passed limits 0 (unless channels 2 0) e in
+    let (one, minL, minH, topL) =
+    each-of-four (le one32 (g .min)) (le (g .min) (g .«max_l»)) (le (g .min) (g .«max_h»)) (le (g .«max_l») greatestErle) (and-left lower capped all) in
+    let limitsL : InOrder (g .min) (g .«max_l») =
+    record { from = holds one; order = holds minL; to = holds topL; minHeld = inBinary32 .min; maxHeld = inBinary32 .«max_l» } in
+    let limitsH : InOrder (g .min) (g .«max_h») =
+    record {
+      from = holds one;
+      order = holds minH;
+      to = holds (and-right lower capped all);
+      minHeld = inBinary32 .min;
+      maxHeld = inBinary32 .«max_h»;
+    } in
+    record {
+      limits = λ k. cond-has (InOrder (g .min)) (ltb k 32) (λ t. limitsL) (λ t. limitsH);
+      channels = to-hi 1 4 (g .«num_capture_channels») (passed channels 1 0 (later-passed limits 0 (unless channels 2 0) e));
+    }
+
+-- ---- a state
+
+-- What a state keeps: its settings, and what each of its channels keeps.
+pub record Kept (g : SubbandSettings) (s : SubbandErleEstimator) : Type 0 where
+  pub settings : s .settings ≡ g
+  pub channels : (ch : ℕ) → ch < g .«num_capture_channels» → ChannelKept g (channelAt s ch)
+
+module _ (g : SubbandSettings) (ok : SettingsOk g) where
+  pub started-kept : Kept g (started g)
+  unfolding started
+  started-kept =
+      record {
+        settings = refl;
+        channels = λ ch h.
+            subst (ChannelKept g) (sym (getD-tab 4 (λ c. fresh (g .min)) ch noChannel (omega (arith, ok .channels)))) (fresh-kept g (ok .limits));
+      }
+
+  -- a channel after an accepted update
+  pub updated-channel :
+      (s : SubbandErleEstimator) (converged : List Bool) (render capture residual : List Float)
+      → Kept g s → (ch : ℕ) → ch < g .«num_capture_channels»
+      → channelAt (updated s converged render capture residual) ch
+      ≡ channelAfter g (blockOf converged render capture residual ch) (channelAt s ch)
+  unfolding updated
+  updated-channel s converged render capture residual kept ch h =
+      getD-tab 4
+      (λ j.
+      cond (ltb j (s .settings .«num_capture_channels»))
+      (channelAfter (s .settings) (blockOf converged render capture residual j) (channelAt s j))
+      (channelAt s j))
+      ch noChannel (omega (arith, ok .channels))
+      ∙ rw (kept .settings, lt-ltb ch (g .«num_capture_channels») h)
+
+-- ---- an accepted update
+
+-- 65 captures and residuals for each of n channels, all from 0 to 2^100
+record UpdateOk (n : ℕ) (capture residual : List Float) : Type 0 where
+  longCapture : length capture ≡ n * 65
+  longResidual : length residual ≡ n * 65
+  captureOk : valuesOk capture ≡ true
+  residualOk : valuesOk residual ≡ true
+
+update-ok :
+    (s : SubbandErleEstimator) (channels : ℕ) (converged : List Bool) (render capture residual : List Float)
+    → updateRefusal s channels converged render capture residual ≡ accepted → UpdateOk (s .settings .«num_capture_channels») capture residual
+unfolding updateRefusal lengthsOk
+update-ok s channels converged render capture residual e =
+    let n = s .settings .«num_capture_channels» in
+    let lengths = lengthsOk channels converged render capture residual in
+    let values = valuesOk render && valuesOk capture && valuesOk residual in
+    let counted = later-passed (stateOk s) 19 (unless (eqb channels n) 21 (unless lengths 5 (unless values 6 0))) e in
+    let measured = later-passed (eqb channels n) 20 (unless lengths 5 (unless values 6 0)) counted in
+    let same = eqb-true channels n (passed (eqb channels n) 20 (unless lengths 5 (unless values 6 0)) counted) in
+    let long = passed lengths 4 (unless values 6 0) measured in
+    let good = passed values 5 0 (later-passed lengths 4 (unless values 6 0) measured) in
+    let (flagged, rendered, captured, left) =
+    each-of-four (eqb (length converged) channels) (eqb (length render) 65) (eqb (length capture) (channels * 65)) (eqb (length residual) (channels * 65)) long in
+    let (renderOk, captureOk, residualOk) = each-of-three (valuesOk render) (valuesOk capture) (valuesOk residual) good in
+    record {
+      longCapture = rw same at (eqb-true (length capture) (channels * 65) captured);
+      longResidual = rw same at (eqb-true (length residual) (channels * 65) left);
+      captureOk = captureOk;
+      residualOk = residualOk;
+    }
+
+-- and so those of one channel
+values-at :
+    (n : ℕ) (xs : List Float) → length xs ≡ n * 65 → valuesOk xs ≡ true
+    → (ch k : ℕ) → ch < n → k < 65 → Value (2 ^ 100) (getD (part xs ch) k nan)
+unfolding part
+values-at n xs long ok ch k h l =
+    rw (getD-take, getD-drop)
+    (value-within (getD xs (ch * 65 + k) nan) (every-at (within greatestValue) xs nan (ch * 65 + k) ok (omega arith)))
+
+module _ (g : SubbandSettings) (ok : SettingsOk g) where
+  pub updated-kept :
+      (s : SubbandErleEstimator) (channels : ℕ) (converged : List Bool) (render capture residual : List Float) → Kept g s
+      → updateRefusal s channels converged render capture residual ≡ accepted → Kept g (updated s converged render capture residual)
+  unfolding updated
+  updated-kept s channels converged render capture residual kept e =
+      let given = rw (kept .settings) at (update-ok s channels converged render capture residual e) in
+      let n = g .«num_capture_channels» in
+      record {
+        settings = kept .settings;
+        channels = λ ch h.
+            subst (ChannelKept g) (sym (updated-channel g ok s converged render capture residual kept ch h))
+            (after-kept g (blockOf converged render capture residual ch) (channelAt s ch) (ok .limits)
+            (record {
+              capture = λ k l. values-at n capture (given .longCapture) (given .captureOk) ch k h l;
+              residual = λ k l. values-at n residual (given .longResidual) (given .residualOk) ch k h l;
+            })
+            (kept .channels ch h));
+      }
+
+  answer-kept : (s : SubbandErleEstimator) (c : Call) → Kept g s → Kept g (answer s c .state)
+  unfolding answer updateAnswer resetAnswer
+  answer-kept s (update channels converged render capture residual) kept =
+      let n = updateRefusal s channels converged render capture residual in
+      cond-has (Kept g) (eqb n accepted) (λ e. updated-kept s channels converged render capture residual kept (eqb-true n accepted e)) (λ e. kept)
+  answer-kept s reset kept = cond-has (Kept g) (eqb (resetRefusal s) accepted) (λ e. rw (kept .settings) (started-kept g ok)) (λ e. kept)
+
+  pub run-kept : (calls : List Call) (s : SubbandErleEstimator) → Kept g s → Kept g (run s calls)
+  unfolding run
+  run-kept [] s kept = kept
+  run-kept (c ∷ cs) s kept = run-kept cs (answer s c .state) (answer-kept s c kept)
+
+-- an accepted start leaves the state that its settings give
+pub start-answer-kept : (g : SubbandSettings) → SettingsOk g → startAnswer g .refused ≡ accepted → Kept g (startAnswer g .state)
+unfolding startAnswer
+start-answer-kept g ok e = rw e (started-kept g ok)

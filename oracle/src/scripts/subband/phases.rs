@@ -1,0 +1,90 @@
+//! What comes between the six points: resets, starts, unconverged and refused
+//! blocks, and channels that stand at different points.
+
+use super::{call, converged, example_start, quiet, start, Walk, POINTS, SETTINGS};
+use crate::kinds::subband::Call;
+use crate::scripts::flags::{mask_flags, Flags};
+use crate::scripts::random::Random;
+use crate::scripts::spectra::{power, powers, Power, Spectrum, LOUD};
+use crate::scripts::Script;
+
+/// How many blocks the channels converge as they please.
+const MIXED_BLOCKS: u32 = 240;
+
+pub fn script(channels: usize) -> Script {
+    let mut random = Random::new(50 + channels as u64);
+    let mut walk = Walk::default();
+    for onset in [true, false] {
+        for held in 0..=POINTS {
+            for event in EVENTS {
+                walk.start(&start(SETTINGS[0], onset, channels));
+                let learning = converged(channels, LOUD, 3.0, 1.0);
+                walk.each(held, &learning);
+                event(&mut walk, channels);
+                walk.each(POINTS + 1, &learning);
+            }
+        }
+        for mask in 0..1 << channels {
+            one_mask(&mut walk, &mut random, mask, onset, channels);
+        }
+        walk.start(&start(SETTINGS[7], onset, channels));
+        mixed(&mut walk, &mut random, channels);
+    }
+    walk.script
+}
+
+/// What happens at each number of points held.
+const EVENTS: [fn(&mut Walk, usize); 7] = [
+    |walk, _| walk.reset(),
+    |walk, channels| walk.start(&start(SETTINGS[1], true, channels)),
+    |walk, channels| {
+        walk.start(&example_start());
+        walk.start(&start(SETTINGS[7], false, channels));
+    },
+    |walk, channels| walk.each(2, &quiet(channels)),
+    |walk, channels| walk.update(&spoilt(channels)),
+    |walk, channels| walk.update(&converged(channels, 0.0, 3.0, 1.0)),
+    |walk, channels| walk.repeat(260, &quiet(channels)),
+];
+
+/// A converged block of a low render, turned away for its last residual.
+fn spoilt(channels: usize) -> Call {
+    let mut call = converged(channels, 0.0, 5.0, 1.0);
+    *call.residual.last_mut().expect("a channel") = f32::NAN;
+    call
+}
+
+/// Only some channels for a while, and then all, which leaves them at different
+/// points; a reset brings them together.
+fn one_mask(walk: &mut Walk, random: &mut Random, mask: u32, onset: bool, channels: usize) {
+    walk.start(&start(SETTINGS[7], onset, channels));
+    let flags = mask_flags(mask, channels);
+    for _ in 0..2 {
+        for _ in 0..POINTS + 2 {
+            walk.update(&random_call(random, &flags));
+        }
+        for _ in 0..POINTS + 1 {
+            walk.update(&random_call(random, &vec![true; channels]));
+        }
+        walk.reset();
+    }
+}
+
+/// Each channel converges as it pleases.
+fn mixed(walk: &mut Walk, random: &mut Random, channels: usize) {
+    for _ in 0..MIXED_BLOCKS {
+        let flags = Flags::Any.draw(random, channels);
+        walk.update(&random_call(random, &flags));
+    }
+}
+
+/// Renders mostly above T, and ratios from below the minimum to far above.
+fn random_call(random: &mut Random, flags: &[bool]) -> Call {
+    let render = powers(random, Power::Loud);
+    let mut spectra = |how: Power| -> Vec<Spectrum> {
+        let spectrum = |_: &bool| std::array::from_fn(|_| power(random, how));
+        flags.iter().map(spectrum).collect()
+    };
+    let (captures, residuals) = (spectra(Power::Loud), spectra(Power::Near));
+    call(flags, &render, &captures, &residuals)
+}
