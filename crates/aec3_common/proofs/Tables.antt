@@ -82,6 +82,17 @@ pub stored-all :
     → Stored n d 0 n f xs r k → n ≤ k → r ≡ tab n f
 stored-all {n = n} {d = d} {f = f} {r = r} s h = tab-is n d f r (s .long) (λ j b. s .done j (omega arith) (omega arith))
 
+-- the loop over the first m of n has ended
+pub stored-firsts :
+    {A : Type 0} {n : ℕ} {d : A} {m : ℕ} {f : ℕ → A} {xs r : List A} {k : ℕ}
+    → Stored n d 0 m f xs r k → m ≤ k → r ≡ tab n (λ j. cond (ltb j m) (f j) (getD xs j d))
+stored-firsts {n = n} {d = d} {m = m} {f = f} {xs = xs} {r = r} s h =
+    tab-is n d (λ j. cond (ltb j m) (f j) (getD xs j d)) r (s .long)
+    (λ j b.
+    cond-by (ltb j m) (getD r j d) (f j) (getD xs j d)
+    (λ q. s .done j (omega (arith, ltb-true j m q)) (omega arith))
+    (λ q. s .ahead j (omega (arith, s .to, ltb-false j m q))))
+
 -- a loop in place has not yet stored at k
 pub stored-not-yet :
     {A : Type 0} {n : ℕ} {d : A} {lo hi : ℕ} {f : ℕ → A} {xs r : List A} {k : ℕ}

@@ -86,7 +86,11 @@ fn onset_by(e2: f32, low_render_energy: bool) -> bool
 pub fn wait_by(waits: bool, e2: f32, low_render_energy: bool) -> bool
     ensures { λ r. ⌜ r ≡ waitBy e2 «low_render_energy» waits ⌝ }
 {
-    if onset_by(e2, low_render_energy) { false } else { waits }
+    if onset_by(e2, low_render_energy) {
+        false
+    } else {
+        waits
+    }
 }
 
 // Its hold, which begins again there.

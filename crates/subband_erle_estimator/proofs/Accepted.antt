@@ -14,7 +14,7 @@ use Rattle.aec3_common.specs.Binary32.{greatestSum, within, valuesOk, sumsOk}
 use Rattle.aec3_common.specs.Refusal.{unless, accepted}
 use Rattle.aec3_common.proofs.Every.{every-by}
 use Rattle.aec3_common.proofs.Numbers.{UpTo, up-to-within}
-use Rattle.subband_erle_estimator.specs.declared.channel.SubbandSettings.{SubbandSettings}
+use Rattle.subband_erle_estimator.specs.declared.settings.SubbandSettings.{SubbandSettings}
 use Rattle.subband_erle_estimator.specs.declared.channel.SubbandChannel.{SubbandChannel}
 use Rattle.subband_erle_estimator.specs.declared.SubbandErleEstimator.{SubbandErleEstimator}
 use Rattle.subband_erle_estimator.specs.Channel.{allPoints}

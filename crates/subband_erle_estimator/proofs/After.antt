@@ -18,7 +18,7 @@ use Rattle.filter_sections.specs.Subbands.{maxErle}
 use Rattle.erle_bands.specs.Band.{Core, ratio, learnt, Onset, onsetLearnt, oneBlockLess}
 use Rattle.erle_bands.specs.Steps.{sumWith, sumsWith, lowWith, lowsWith, ratiosOf, streamBy, streamsBy, waitBy, waitsBy, holdBy, holdsBy, holdLess, holdsLess, compensatedBeside, compensatedsBeside, waitBeside, waitsBeside}
 use Rattle.erle_bands.proofs.Bands.{added-capture, added-residual, added-low, added-plain, added-uncapped, learnt-capture, learnt-residual, learnt-low, less-hold, less-compensated, less-waits, stream-plain, stream-uncapped, stream-compensated, wait-learnt, hold-learnt}
-use Rattle.subband_erle_estimator.specs.declared.channel.SubbandSettings.{SubbandSettings}
+use Rattle.subband_erle_estimator.specs.declared.settings.SubbandSettings.{SubbandSettings}
 use Rattle.subband_erle_estimator.specs.declared.channel.SubbandChannel.{SubbandChannel}
 use Rattle.subband_erle_estimator.specs.Channel.{Block, quiet, allPoints, pointsWith, coreAt, onsetAt, heard, isNew, maxAt, coreAfter, onsetAfter, channelAfter}
 use Rattle.subband_erle_estimator.specs.Steps.{limitsOf, onsetLearntBy, streamsLearntBy, learntBy, heardBy, convergedBy, restedBy, compensatedEnds}

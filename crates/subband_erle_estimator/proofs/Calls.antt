@@ -21,11 +21,12 @@ use Rattle.aec3_common.proofs.Rounding.{holds}
 use Rattle.aec3_common.proofs.Tables.{getD-tab}
 use Rattle.filter_sections.specs.Subbands.{maxErle}
 use Rattle.erle_bands.proofs.Range.{InOrder}
-use Rattle.subband_erle_estimator.specs.declared.channel.SubbandSettings.{SubbandSettings}
+use Rattle.subband_erle_estimator.specs.declared.settings.SubbandSettings.{SubbandSettings}
 use Rattle.subband_erle_estimator.specs.declared.SubbandErleEstimator.{SubbandErleEstimator}
 use Rattle.subband_erle_estimator.specs.Channel.{fresh, channelAfter}
 use Rattle.subband_erle_estimator.specs.Subband.{settingsRefusal, stateOk, lengthsOk, updateRefusal, resetRefusal, started, startAnswer, resetAnswer, noChannel, channelAt, blockOf, updated, updateAnswer}
 use Rattle.subband_erle_estimator.specs.Resting.{Call, update, reset, answer, run, InBinary32}
+use Rattle.subband_erle_estimator.proofs.Judged.{update-ok}
 use Rattle.subband_erle_estimator.proofs.Channels.{AllInOrder, ChannelKept, fresh-kept, after-kept}
 
 -- ---- settings
@@ -96,37 +97,7 @@ module _ (g : SubbandSettings) (ok : SettingsOk g) where
 
 -- ---- an accepted update
 
--- 65 captures and residuals for each of n channels, all from 0 to 2^100
-record UpdateOk (n : ℕ) (capture residual : List Float) : Type 0 where
-  longCapture : length capture ≡ n * 65
-  longResidual : length residual ≡ n * 65
-  captureOk : valuesOk capture ≡ true
-  residualOk : valuesOk residual ≡ true
-
-update-ok :
-    (s : SubbandErleEstimator) (channels : ℕ) (converged : List Bool) (render capture residual : List Float)
-    → updateRefusal s channels converged render capture residual ≡ accepted → UpdateOk (s .settings .«num_capture_channels») capture residual
-unfolding updateRefusal lengthsOk
-update-ok s channels converged render capture residual e =
-    let n = s .settings .«num_capture_channels» in
-    let lengths = lengthsOk channels converged render capture residual in
-    let values = valuesOk render && valuesOk capture && valuesOk residual in
-    let counted = later-passed (stateOk s) 19 (unless (eqb channels n) 21 (unless lengths 5 (unless values 6 0))) e in
-    let measured = later-passed (eqb channels n) 20 (unless lengths 5 (unless values 6 0)) counted in
-    let same = eqb-true channels n (passed (eqb channels n) 20 (unless lengths 5 (unless values 6 0)) counted) in
-    let long = passed lengths 4 (unless values 6 0) measured in
-    let good = passed values 5 0 (later-passed lengths 4 (unless values 6 0) measured) in
-    let (flagged, rendered, captured, left) =
-    each-of-four (eqb (length converged) channels) (eqb (length render) 65) (eqb (length capture) (channels * 65)) (eqb (length residual) (channels * 65)) long in
-    let (renderOk, captureOk, residualOk) = each-of-three (valuesOk render) (valuesOk capture) (valuesOk residual) good in
-    record {
-      longCapture = rw same at (eqb-true (length capture) (channels * 65) captured);
-      longResidual = rw same at (eqb-true (length residual) (channels * 65) left);
-      captureOk = captureOk;
-      residualOk = residualOk;
-    }
-
--- and so those of one channel
+-- the values that it lends one channel
 values-at :
     (n : ℕ) (xs : List Float) → length xs ≡ n * 65 → valuesOk xs ≡ true
     → (ch k : ℕ) → ch < n → k < 65 → Value (2 ^ 100) (getD (part xs ch) k nan)

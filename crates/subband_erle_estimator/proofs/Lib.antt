@@ -1,3 +1,5 @@
+pub mod Judged
+pub mod Updates
 pub mod Records
 pub mod After
 pub mod Channels

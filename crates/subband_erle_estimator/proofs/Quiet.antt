@@ -11,7 +11,7 @@ use Rattle.aec3_common.proofs.Tables.{getD-tab}
 use Rattle.erle_bands.specs.Band.{Core, oneBlockLess}
 use Rattle.erle_bands.proofs.Range.{between-positive}
 use Rattle.erle_bands.proofs.Rest.{Resting, one-block-less-resting, resting-end}
-use Rattle.subband_erle_estimator.specs.declared.channel.SubbandSettings.{SubbandSettings}
+use Rattle.subband_erle_estimator.specs.declared.settings.SubbandSettings.{SubbandSettings}
 use Rattle.subband_erle_estimator.specs.declared.channel.SubbandChannel.{SubbandChannel}
 use Rattle.subband_erle_estimator.specs.Channel.{coreAt, onsetAt, Block, coreAfter, onsetAfter, channelAfter}
 use Rattle.subband_erle_estimator.proofs.Channels.{AllInOrder, ChannelKept}

@@ -14,7 +14,7 @@ use Rattle.aec3_common.specs.Refusal.{accepted}
 use Rattle.aec3_common.proofs.Choices.{and-left, and-right}
 use Rattle.aec3_common.proofs.Fitting.{Between}
 use Rattle.erle_bands.proofs.Rest.{resting-start}
-use Rattle.subband_erle_estimator.specs.declared.channel.SubbandSettings.{SubbandSettings}
+use Rattle.subband_erle_estimator.specs.declared.settings.SubbandSettings.{SubbandSettings}
 use Rattle.subband_erle_estimator.specs.declared.SubbandErleEstimator.{SubbandErleEstimator}
 use Rattle.subband_erle_estimator.specs.Subband.{startAnswer, resetAnswer, updateAnswer, channelAt, blockOf}
 use Rattle.subband_erle_estimator.specs.Resting.{Call, update, reset, answer, run, acceptedOf, unconverged, lastOf, beforeLast, numberFrom, FiguresInRangeAndAtRest}

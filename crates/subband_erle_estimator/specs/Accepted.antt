@@ -2,7 +2,7 @@
 use mathlib.Core.Path.{_≡_}
 use mathlib.Core.List.{List}
 use Rattle.aec3_common.specs.Refusal.{accepted, badState}
-use Rattle.subband_erle_estimator.specs.declared.channel.SubbandSettings.{SubbandSettings}
+use Rattle.subband_erle_estimator.specs.declared.settings.SubbandSettings.{SubbandSettings}
 use Rattle.subband_erle_estimator.specs.Subband.{startAnswer}
 use Rattle.subband_erle_estimator.specs.Resting.{Call, answer, run, InBinary32}
 

@@ -11,7 +11,7 @@ use Rattle.aec3_common.specs.Lists.{tab}
 use Rattle.aec3_common.specs.Spectra.{innerBand, shownBand}
 use Rattle.filter_sections.specs.Subbands.{maxErle}
 use Rattle.erle_bands.specs.Band.{Core, emptied, added, hasRatio, ratio, learnt, Onset, onsetLearnt, oneBlockLess}
-use Rattle.subband_erle_estimator.specs.declared.channel.SubbandSettings.{SubbandSettings}
+use Rattle.subband_erle_estimator.specs.declared.settings.SubbandSettings.{SubbandSettings}
 use Rattle.subband_erle_estimator.specs.declared.channel.SubbandChannel.{SubbandChannel}
 
 -- what one band holds

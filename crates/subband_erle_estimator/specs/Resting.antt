@@ -10,7 +10,7 @@ use Rattle.aec3_common.specs.Lists.{every}
 use Rattle.aec3_common.specs.Refusal.{accepted}
 use Rattle.aec3_common.specs.Settings.{greatestErle}
 use Rattle.filter_sections.specs.Subbands.{maxErle}
-use Rattle.subband_erle_estimator.specs.declared.channel.SubbandSettings.{SubbandSettings}
+use Rattle.subband_erle_estimator.specs.declared.settings.SubbandSettings.{SubbandSettings}
 use Rattle.subband_erle_estimator.specs.declared.SubbandErleEstimator.{SubbandErleEstimator}
 use Rattle.subband_erle_estimator.specs.declared.SubbandAnswer.{SubbandAnswer}
 use Rattle.subband_erle_estimator.specs.Subband.{startAnswer, updateAnswer, resetAnswer, channelAt}

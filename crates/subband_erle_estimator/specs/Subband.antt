@@ -10,7 +10,7 @@ use Rattle.aec3_common.specs.Lists.{tab, every}
 use Rattle.aec3_common.specs.Refusal.{unless, accepted, badLimits, badChannelCount, badLength, badValue, badState, otherChannelCount}
 use Rattle.aec3_common.specs.Settings.{maxCaptureChannels, limitsOk, captureChannelsOk}
 use Rattle.aec3_common.specs.Spectra.{part}
-use Rattle.subband_erle_estimator.specs.declared.channel.SubbandSettings.{SubbandSettings}
+use Rattle.subband_erle_estimator.specs.declared.settings.SubbandSettings.{SubbandSettings}
 use Rattle.subband_erle_estimator.specs.declared.channel.SubbandChannel.{SubbandChannel}
 use Rattle.subband_erle_estimator.specs.declared.SubbandErleEstimator.{SubbandErleEstimator}
 use Rattle.subband_erle_estimator.specs.declared.SubbandAnswer.{SubbandAnswer}
@@ -36,12 +36,16 @@ stateOk s =
     && every channelOk (take (s .settings .«num_capture_channels») (s .channels))
 
 -- one flag and 65 captures and residuals for each channel, 65 renders
-unfoldable pub lengthsOk : ℕ → List Bool → List Float → List Float → List Float → Bool
+abbrev pub lengthsOk : ℕ → List Bool → List Float → List Float → List Float → Bool
 lengthsOk channels converged render capture residual =
     eqb (length converged) channels
     && eqb (length render) 65
     && eqb (length capture) (channels * 65)
     && eqb (length residual) (channels * 65)
+
+-- number 6, of all that is lent
+abbrev pub valuesInRange : List Float → List Float → List Float → Bool
+valuesInRange render capture residual = valuesOk render && valuesOk capture && valuesOk residual
 
 -- the first of 20, 21, 5 and 6, or 0
 unfoldable pub updateRefusal : SubbandErleEstimator → ℕ → List Bool → List Float → List Float → List Float → ℕ
@@ -49,7 +53,7 @@ updateRefusal s channels converged render capture residual =
     unless (stateOk s) badState
     (unless (eqb channels (s .settings .«num_capture_channels»)) otherChannelCount
     (unless (lengthsOk channels converged render capture residual) badLength
-    (unless (valuesOk render && valuesOk capture && valuesOk residual) badValue
+    (unless (valuesInRange render capture residual) badValue
     accepted)))
 
 -- a reset is turned away under 20 alone
@@ -125,3 +129,7 @@ unfoldable pub updateAnswer : SubbandErleEstimator → ℕ → List Bool → Lis
 updateAnswer s channels converged render capture residual =
     let n = updateRefusal s channels converged render capture residual in
     record { state = cond (eqb n accepted) (updated s converged render capture residual) s; refused = n }
+
+-- `erle` answers one of two streams: the compensated one where it is asked for and onset detection is on, else the plain one
+unfoldable pub erleOf : List Float → List Float → Bool → Bool → List Float
+erleOf plain compensated onsetCompensated onsetDetection = cond (onsetCompensated && onsetDetection) compensated plain

@@ -1,5 +1,5 @@
 // One channel's record: 65 bands, and the points that its sums hold.
-use aec3_common::settings::GREATEST_ERLE;
+use crate::settings::SubbandSettings;
 use aec3_common::spectra::copy_ends;
 use aec3_common::sums_ok;
 use erle_bands::onsets::decay_compensated;
@@ -18,41 +18,9 @@ ghost use Prim.Native.Nat.{_≤_};
 ghost use lib.ListN.{length};
 ghost use Rattle.subband_erle_estimator.specs.Channel.{pointsWith, fresh, quiet, channelAfter};
 ghost use Rattle.subband_erle_estimator.specs.Subband.{channelOk};
-ghost use Rattle.subband_erle_estimator.specs.Steps.{limitsOf, uncappedLimits, learntBy, onsetLearntBy};
+ghost use Rattle.subband_erle_estimator.specs.Steps.{learntBy, onsetLearntBy};
 
 pub const POINTS_TO_ACCUMULATE: u32 = 6;
-
-pub struct SubbandSettings {
-    pub min: f32,
-    pub max_l: f32,
-    pub max_h: f32,
-    pub onset_detection: bool,
-    pub num_capture_channels: usize,
-}
-
-impl SubbandSettings {
-    // The limits of the plain and the compensated stream.
-    fn limits(self) -> Limits
-        ensures { λ r. ⌜ r ≡ limitsOf self ⌝ }
-    {
-        Limits {
-            min: self.min,
-            max_l: self.max_l,
-            max_h: self.max_h,
-        }
-    }
-
-    // The limits of the uncapped stream.
-    fn uncapped_limits(self) -> Limits
-        ensures { λ r. ⌜ r ≡ uncappedLimits self ⌝ }
-    {
-        Limits {
-            min: self.min,
-            max_l: GREATEST_ERLE,
-            max_h: GREATEST_ERLE,
-        }
-    }
-}
 
 pub struct SubbandChannel {
     pub erle: [f32; 65],
@@ -95,6 +63,34 @@ impl SubbandChannel {
             low_render_energy: [false; 65],
             num_points: 0,
         }
+    }
+
+    // The plain ERLE of each band.
+    pub fn erle(self) -> [f32; 65]
+        ensures { λ r. ⌜ r ≡ self .erle ⌝ }
+    {
+        self.erle
+    }
+
+    // The onset-compensated ERLE; with onset detection off it is the minimum, and `erle` of the crate answers the plain one.
+    pub fn erle_onset_compensated(self) -> [f32; 65]
+        ensures { λ r. ⌜ r ≡ self .«erle_onset_compensated» ⌝ }
+    {
+        self.erle_onset_compensated
+    }
+
+    // The uncapped ERLE.
+    pub fn erle_unbounded(self) -> [f32; 65]
+        ensures { λ r. ⌜ r ≡ self .«erle_unbounded» ⌝ }
+    {
+        self.erle_unbounded
+    }
+
+    // The onset values.
+    pub fn erle_onsets(self) -> [f32; 65]
+        ensures { λ r. ⌜ r ≡ self .«erle_onsets» ⌝ }
+    {
+        self.erle_onsets
     }
 
     // Nothing of the old record stays.
@@ -141,7 +137,12 @@ impl SubbandChannel {
             lower_holds(&mut self.hold_counters);
             let holds = self.hold_counters;
             let onsets = self.erle_onsets;
-            decay_compensated(&mut self.erle_onset_compensated, &onsets, &holds, settings.min);
+            decay_compensated(
+                &mut self.erle_onset_compensated,
+                &onsets,
+                &holds,
+                settings.min,
+            );
             wait_again(&mut self.coming_onset, &holds);
         }
         copy_ends(&mut self.erle_onset_compensated);
@@ -158,7 +159,12 @@ impl SubbandChannel {
             lower_holds(&mut self.hold_counters);
             let holds = self.hold_counters;
             let onsets = self.erle_onsets;
-            decay_compensated(&mut self.erle_onset_compensated, &onsets, &holds, settings.min);
+            decay_compensated(
+                &mut self.erle_onset_compensated,
+                &onsets,
+                &holds,
+                settings.min,
+            );
             wait_again(&mut self.coming_onset, &holds);
         }
         copy_ends(&mut self.erle_onset_compensated);
@@ -175,7 +181,13 @@ impl SubbandChannel {
         let low = self.low_render_energy;
         let new_erle = ratios(&y2, &e2);
         move_stream(&mut self.erle, &new_erle, &e2, &low, settings.limits());
-        move_stream(&mut self.erle_unbounded, &new_erle, &e2, &low, settings.uncapped_limits());
+        move_stream(
+            &mut self.erle_unbounded,
+            &new_erle,
+            &e2,
+            &low,
+            settings.uncapped_limits(),
+        );
         if settings.onset_detection {
             self.onset_learnt(&new_erle, &e2, &low, settings.limits())
         } else {

@@ -1,0 +1,60 @@
+// Which calls of update are turned away.
+use aec3_common::refusal::ACCEPTED;
+use aec3_common::refusal::BAD_LENGTH;
+use aec3_common::refusal::BAD_STATE;
+use aec3_common::refusal::BAD_VALUE;
+use aec3_common::refusal::OTHER_CHANNEL_COUNT;
+use aec3_common::values_ok;
+ghost use mathlib.Core.Path.{_≡_};
+ghost use mathlib.Core.Bool.{true};
+ghost use Prim.Native.Nat.{_≤_};
+ghost use Rattle.subband_erle_estimator.specs.Subband.{lengthsOk, valuesInRange};
+ghost use Rattle.subband_erle_estimator.specs.Steps.{callRefusal};
+
+fn lengths_ok(channels: usize, converged: &[bool], x2: &[f32], y2: &[f32], e2: &[f32]) -> bool
+    requires { ⌜ channels ≤ 4 ⌝ }
+    ensures { λ r. ⌜ r ≡ lengthsOk channels (now (converged .entry)) (now (x2 .entry)) (now (y2 .entry)) (now (e2 .entry)) ⌝ }
+{
+    (converged.len() == channels)
+        & (x2.len() == 65)
+        & (y2.len() == channels * 65)
+        & (e2.len() == channels * 65)
+}
+
+fn all_values_ok(x2: &[f32], y2: &[f32], e2: &[f32]) -> bool
+    ensures { λ r. ⌜ r ≡ valuesInRange (now (x2 .entry)) (now (y2 .entry)) (now (e2 .entry)) ⌝ }
+{
+    values_ok(x2) & values_ok(y2) & values_ok(e2)
+}
+
+// The first of 20, 21, 5 and 6, or 0, for a state that number 20 lets pass or not.
+pub fn call_refusal(
+    state_ok: bool,
+    count: usize,
+    channels: usize,
+    converged: &[bool],
+    x2: &[f32],
+    y2: &[f32],
+    e2: &[f32],
+) -> u32
+    requires { ⌜ («state_ok» ≡ true → count ≤ 4) ⌝ }
+    ensures { λ r. ⌜ r ≡ callRefusal «state_ok» count channels (now (converged .entry)) (now (x2 .entry)) (now (y2 .entry)) (now (e2 .entry)) ⌝ }
+{
+    if state_ok {
+        if channels == count {
+            if lengths_ok(channels, converged, x2, y2, e2) {
+                if all_values_ok(x2, y2, e2) {
+                    ACCEPTED
+                } else {
+                    BAD_VALUE
+                }
+            } else {
+                BAD_LENGTH
+            }
+        } else {
+            OTHER_CHANNEL_COUNT
+        }
+    } else {
+        BAD_STATE
+    }
+}
