@@ -1,31 +1,27 @@
 // Kinds 0110 to 0112: the ERL estimator.
-use crate::line::bad;
-use crate::line::line_end;
-use crate::line::put_refused;
 use crate::standing::Standing;
 use crate::standing::Step;
 use crate::standing::unchanged;
 use crate::standing::with_erl;
-use encoding::bits_of;
-use encoding::byte_at;
-use encoding::float_of;
 use encoding::put_bytes;
-use encoding::put_hex8;
 use encoding::word_at;
 use erl_estimator::ErlEstimator;
 use erl_estimator::ErlUpdate;
-ghost use Prim.Native.Nat.{_≤_, _<_};
+use script::MOST_FLAGS;
+use script::MOST_FLOATS;
+use script::bad;
+use script::flags_from;
+use script::flags_ok;
+use script::floats_from;
+use script::line_end;
+use script::part_length;
+use script::put_bands;
+use script::put_figure;
+use script::put_outcome;
+ghost use Prim.Native.Nat.{_<_};
 
 // Where an update's lists start: behind the kind and five counts.
 const LISTS: usize = 22;
-
-// An update with more than 4 flags, 130 render floats or 260 capture floats is turned away under 2 or 5, before any
-// value is looked at. So the lists are read into tables with room for one more than that, and of a longer list only
-// what the table takes is handed over: it is still too long.
-const MOST_FLAGS: usize = 5;
-
-// Room for the captures; the renders take less.
-const MOST_FLOATS: usize = 261;
 
 // The counts at the head of an update.
 struct UpdateCounts {
@@ -36,24 +32,11 @@ struct UpdateCounts {
     capture_floats: u32,
 }
 
-fn put_figure(out: &mut [u8], at: usize, figure: f32) -> usize {
-    let at = put_bytes(out, at, b" ");
-    put_hex8(out, at, bits_of(figure))
-}
-
-fn put_bands(out: &mut [u8], at: usize, bands: [f32; 65]) -> usize {
-    let mut at = at;
-    for k in 0..65 {
-        at = put_figure(out, at, bands[k]);
-    }
-    at
-}
-
 // The figures line, and what stands from here on.
 fn figures_shown(erl: ErlEstimator, out: &mut [u8], at: usize) -> Step {
     let bands = erl.erl;
     let at = put_bytes(out, at, b"erl");
-    let at = put_bands(out, at, bands);
+    let at = put_bands(out, at, &bands);
     let at = put_figure(out, at, erl.erl_time_domain);
     with_erl(erl, line_end(out, at))
 }
@@ -96,60 +79,22 @@ fn length_asked(n: usize, counts: UpdateCounts) -> bool {
     n == behind(counts.flags, counts.render_floats) + 4 * (counts.capture_floats as usize)
 }
 
-// Whether each byte from the first list's start to a place is a flag.
-fn flags_ok(record: &[u8], end: usize) -> bool {
-    let mut ok = true;
-    for k in LISTS..end {
-        ok = ok & (byte_at(record, k) <= 1);
-    }
-    ok
-}
-
 // Whether an update is well-formed. A body that is too short for its counts fails before they are trusted.
 fn update_ok(record: &[u8], counts: UpdateCounts) -> bool {
     if length_asked(record.len(), counts) {
-        flags_ok(record, behind(counts.flags, 0))
+        flags_ok(record, LISTS, behind(counts.flags, 0))
     } else {
         false
     }
 }
 
-// A table that begins with the flags; what lies behind them is not looked at.
-fn flags_of(record: &[u8]) -> [bool; MOST_FLAGS] {
-    let mut r = [false; MOST_FLAGS];
-    for k in 0..MOST_FLAGS {
-        r[k] = byte_at(record, LISTS + k) == 1;
-    }
-    r
-}
-
-// A table that begins with n floats of the record, and goes on with zeros.
-fn floats_from(record: &[u8], from: usize, n: usize) -> [f32; MOST_FLOATS]
-    requires { ⌜ (from < 0x8_0000_0000) × (n ≤ 261) ⌝ }
-{
-    let mut r = [0.0; MOST_FLOATS];
-    for k in 0..n {
-        r[k] = float_of(word_at(record, from + 4 * k));
-    }
-    r
-}
-
-// As many elements of a table as are asked for, or all.
-fn part_length(count: u32, size: usize) -> usize
-    ensures { λ r. ⌜ r ≤ size ⌝ }
-{
-    let n = count as usize;
-    if n < size { n } else { size }
-}
-
 fn erl_updated(erl: ErlEstimator, record: &[u8], counts: UpdateCounts) -> ErlUpdate {
-    let flags = flags_of(record);
+    let flags = flags_from(record, LISTS);
+    let render = floats_from(record, behind(counts.flags, 0));
+    let capture = floats_from(record, behind(counts.flags, counts.render_floats));
     let num_flags = part_length(counts.flags, MOST_FLAGS);
     let num_renders = part_length(counts.render_floats, MOST_FLOATS);
-    let render = floats_from(record, behind(counts.flags, 0), num_renders);
     let num_captures = part_length(counts.capture_floats, MOST_FLOATS);
-    let from = behind(counts.flags, counts.render_floats);
-    let capture = floats_from(record, from, num_captures);
     erl.update(
         counts.captures as usize,
         counts.renders as usize,
@@ -160,11 +105,8 @@ fn erl_updated(erl: ErlEstimator, record: &[u8], counts: UpdateCounts) -> ErlUpd
 }
 
 fn put_answer(out: &mut [u8], at: usize, refused: u32) -> usize {
-    if refused == 0 {
-        return put_bytes(out, at, b"erl ok\n");
-    }
     let at = put_bytes(out, at, b"erl ");
-    let at = put_refused(out, at, refused);
+    let at = put_outcome(out, at, b"ok", refused);
     put_bytes(out, at, b"\n")
 }
 

@@ -1,17 +1,29 @@
-// What each kind of record asks.
+// The script's records, one after the other, and what each kind asks.
 use crate::erl::replay_erl_reset;
 use crate::erl::replay_erl_start;
 use crate::erl::replay_erl_update;
 use crate::leaves::replay_log2;
 use crate::leaves::replay_ring;
 use crate::leaves::replay_sections;
-use crate::line::bad;
 use crate::standing::Standing;
 use crate::standing::Step;
 use crate::standing::unchanged;
 use encoding::half_at;
+use script::Next;
+use script::bad;
+use script::ended;
+use script::next_record;
 
-pub fn replay_record(record: &[u8], standing: Standing, out: &mut [u8], at: usize) -> Step {
+// Replays the record that stands next.
+pub fn replay_next(standing: Standing, buffer: &mut [u8], out: &mut [u8], at: usize) -> Step {
+    match next_record(buffer) {
+        Next::Record(n) => replay_record(&buffer[0..n], standing, out, at),
+        Next::End => unchanged(standing, ended(at)),
+        Next::Malformed => unchanged(standing, bad(out, at)),
+    }
+}
+
+fn replay_record(record: &[u8], standing: Standing, out: &mut [u8], at: usize) -> Step {
     match half_at(record, 0) {
         0x0101 => unchanged(standing, replay_log2(record, out, at)),
         0x0102 => unchanged(standing, replay_ring(record, out, at)),

@@ -1,10 +1,4 @@
 // Kinds 0101 to 0103: log2, ring places, section boundaries.
-use crate::line::Turn;
-use crate::line::bad;
-use crate::line::line_end;
-use crate::line::put_count;
-use crate::line::put_field;
-use crate::line::put_refused;
 use aec3_common::Log2;
 use aec3_common::fast_approx_log2f;
 use encoding::bits_of;
@@ -14,6 +8,12 @@ use encoding::put_hex8;
 use encoding::word_at;
 use filter_sections::Sections;
 use filter_sections::section_boundaries;
+use script::Turn;
+use script::bad;
+use script::line_end;
+use script::put_count;
+use script::put_field;
+use script::put_refused;
 use spectrum_buffer::Place;
 use spectrum_buffer::inc_index;
 use spectrum_buffer::offset_index;

@@ -3,31 +3,22 @@
 mod erl;
 mod kinds;
 mod leaves;
-mod line;
-mod script;
 mod standing;
 
+use kinds::replay_next;
 use script::flushed;
-use script::replay_next;
+use script::record_buffer;
+use script::text_buffer;
 use script::write_out;
 use standing::nothing_stands;
-ghost use mathlib.Core.Path.{_≡_};
-ghost use lib.ListN.{length};
-
-// Room for the longest record that is read: a longer one counts as malformed.
-fn record_buffer() -> [u8; 131072]
-    ensures { λ r. ⌜ 131072 ≡ length r ⌝ }
-{
-    [0; 131072]
-}
 
 // Nothing says that the input ends, so the loop counts its turns down from a number that no run uses up.
-fn run(record: &mut [u8], out: &mut [u8]) {
+fn run(buffer: &mut [u8], out: &mut [u8]) {
     let mut standing = nothing_stands();
     let mut at = 0;
     let mut turns = u64::MAX;
     while turns > 0 {
-        let step = replay_next(standing, record, out, at);
+        let step = replay_next(standing, buffer, out, at);
         if !step.more {
             write_out(out, step.at);
             return;
@@ -40,7 +31,7 @@ fn run(record: &mut [u8], out: &mut [u8]) {
 }
 
 fn main() {
-    let mut record = record_buffer();
-    let mut out = io::large_buffer();
-    run(&mut record, &mut out);
+    let mut buffer = record_buffer();
+    let mut out = text_buffer();
+    run(&mut buffer, &mut out);
 }

@@ -1,6 +1,6 @@
 // What stands from one record to the next.
-use crate::line::Turn;
 use erl_estimator::ErlEstimator;
+use script::Turn;
 
 // The ERL estimator of the latest start. Until the first start none stands, and the one that lies here is not used.
 pub struct Standing {

@@ -123,18 +123,14 @@ impl SubbandErleEstimator {
             y2,
             e2,
         );
-        if refused != ACCEPTED {
-            return SubbandAnswer {
-                state: self,
-                refused,
-            };
-        }
-        for ch in 0..count {
-            let c = self.channels[ch];
-            if converged_filters[ch] {
-                self.channels[ch] = c.update(settings, x2, part(y2, ch), part(e2, ch));
-            } else {
-                self.channels[ch] = c.decay(settings);
+        if refused == ACCEPTED {
+            for ch in 0..count {
+                let c = self.channels[ch];
+                if converged_filters[ch] {
+                    self.channels[ch] = c.update(settings, x2, part(y2, ch), part(e2, ch));
+                } else {
+                    self.channels[ch] = c.decay(settings);
+                }
             }
         }
         SubbandAnswer {

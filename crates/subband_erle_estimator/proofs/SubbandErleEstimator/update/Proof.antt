@@ -60,14 +60,14 @@ refused-by c =
     refusal-is (a .t1) (a .num-capture-channels) (a .converged-filters .now) (a .x2 .now) (a .y2 .now) (a .e2 .now)
     (judged (c .before)) (c .call-refusal .ensures)
 
-returns : tie.Need-returns Inv-loop μ-loop Inv-loop2 μ-loop2
+returns-2 : tie.Need-returns-2 Inv-loop μ-loop Inv-loop2 μ-loop2
 unfolding updateAnswer
-returns c = simp (sym (refused-by (c .before)), ne-eqb _ _ (c .if1 .taken))
+returns-2 c = simp (sym (refused-by (c .before)), ne-eqb _ _ (c .if1 .left))
 
 loop2-holds : tie.Need-loop2-holds Inv-loop μ-loop Inv-loop2 μ-loop2
 loop2-holds c =
     let a = c .before .before .before .before .before .before .before .before .before .before .before .args in
-    let none = sym (refused-by (c .before)) ∙ c .if1 .left in
+    let none = sym (refused-by (c .before)) ∙ c .if1 .taken in
     let state = update-state-ok (a .t1) (a .num-capture-channels) (a .converged-filters .now) (a .x2 .now) (a .y2 .now) (a .e2 .now) none in
     let few = state-few (a .t1) state in (
       omega arith,
@@ -131,14 +131,14 @@ loop2-again c =
           (c .if2 .came),
     )
 
-returns-2 : tie.Need-returns-2 Inv-loop μ-loop Inv-loop2 μ-loop2
+returns : tie.Need-returns Inv-loop μ-loop Inv-loop2 μ-loop2
 unfolding updateAnswer
-returns-2 c =
+returns c =
     let a = c .before .before .before .before .before .before .before .before .before .before .before .before .before .args in
     let done =
     updating-all (a .t1) (a .converged-filters .now) (a .x2 .now) (a .y2 .now) (a .e2 .now) (c .before .loop2 .self) (c .before .loop2 .ch)
     (c .before .loop2 .inv .2) (c .loop2-test .left) in
-    simp (sym (refused-by (c .before .before .before)), eq-eqb _ _ (c .before .before .if1 .left), done)
+    simp (sym (refused-by (c .before .before .before)), eq-eqb _ _ (c .before .before .if1 .taken), done)
 
 pub update-spec : {M : Type 1} → statement M
 update-spec =
@@ -158,7 +158,6 @@ update-spec =
     loop-again
     (λ c κs. search needs)
     call-refusal-requires
-    returns
     loop2-holds
     (λ c. search needs)
     (λ c. search needs)
@@ -174,4 +173,5 @@ update-spec =
     (λ c. search needs)
     (λ c. search needs)
     loop2-again
+    returns
     returns-2)

@@ -1,0 +1,44 @@
+// The figures of an estimator added up in order, so that a driver can compare what was computed.
+use aec3_common::spectra::sum;
+use erl_estimator::ErlEstimator;
+use subband_erle_estimator::SubbandChannel;
+use subband_erle_estimator::SubbandErleEstimator;
+ghost use Prim.Native.Nat.{_≤_};
+
+// Of an ERL estimator.
+pub fn erl_sum(erl: ErlEstimator) -> f32 {
+    let bands = erl.erl;
+    sum(&bands) + erl.erl_time_domain
+}
+
+// A number and the figures of a stream, added up in order.
+fn stream_added(total: f32, stream: [f32; 65]) -> f32 {
+    let mut total = total;
+    for k in 0..65 {
+        total = total + stream[k];
+    }
+    total
+}
+
+// A number and the three streams of a channel.
+fn channel_added(total: f32, channel: SubbandChannel) -> f32 {
+    let plain = channel.erle;
+    let compensated = channel.erle_onset_compensated;
+    let unbounded = channel.erle_unbounded;
+    let total = stream_added(total, plain);
+    let total = stream_added(total, compensated);
+    stream_added(total, unbounded)
+}
+
+// Of a subband estimator: channel by channel, the plain, the compensated and the unbounded figures.
+pub fn subband_sum(estimator: SubbandErleEstimator, channels: usize) -> f32
+    requires { ⌜ channels ≤ 4 ⌝ }
+{
+    let records = estimator.channels;
+    let mut total = 0.0;
+    for ch in 0..channels {
+        let channel = records[ch];
+        total = channel_added(total, channel);
+    }
+    total
+}
