@@ -69,9 +69,9 @@ fn put_flag_line(
     put_bytes(out, at, b"\n")
 }
 
-fn put_points_line(out: &mut [u8], at: usize, channel: usize, points: u32) -> usize {
+fn put_points_line(out: &mut [u8], at: usize, channel: usize, points: usize) -> usize {
     let at = put_head(out, at, b"points", channel);
-    let at = put_field(out, at, points as usize);
+    let at = put_field(out, at, points);
     put_bytes(out, at, b"\n")
 }
 

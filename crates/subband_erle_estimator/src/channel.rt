@@ -20,9 +20,10 @@ ghost use Rattle.subband_erle_estimator.specs.Channel.{pointsWith, fresh
 ghost use Rattle.subband_erle_estimator.specs.Subband.{channelOk};
 ghost use Rattle.subband_erle_estimator.specs.Steps.{learntBy, onsetLearntBy};
 
-pub const POINTS_TO_ACCUMULATE: u32 = 6;
+pub const POINTS_TO_ACCUMULATE: usize = 6;
 
 pub struct SubbandChannel {
+    pub num_points: usize,
     pub erle: [f32; 65],
     pub erle_onset_compensated: [f32; 65],
     pub erle_unbounded: [f32; 65],
@@ -32,11 +33,10 @@ pub struct SubbandChannel {
     pub y2: [f32; 65],
     pub e2: [f32; 65],
     pub low_render_energy: [bool; 65],
-    pub num_points: u32,
 }
 
 // The points held after one more.
-fn points_with(points: u32) -> u32
+fn points_with(points: usize) -> usize
     requires { ⌜ points ≤ 6 ⌝ }
     ensures { λ r. ⌜ r ≡ pointsWith points ⌝ }
 {
