@@ -77,13 +77,24 @@ impl SubbandErleEstimator {
         (settings.refusal() == ACCEPTED) & ok
     }
 
-    // Every channel as after a start. 20 is turned away.
+    fn all_reset(mut self) -> SubbandErleEstimator
+        ensures { λ r. ⌜ r ≡ Subband·started (self .settings) ⌝ }
+    {
+        let min = self.settings.min;
+        for ch in 0..4 {
+            let c = self.channels[ch];
+            self.channels[ch] = c.reset(min);
+        }
+        self
+    }
+
+    // Every record as after a start. 20 is turned away.
     pub fn reset(self) -> SubbandAnswer
         ensures { λ r. ⌜ r ≡ resetAnswer self ⌝ }
     {
         if self.ok() {
             SubbandAnswer {
-                state: started(self.settings),
+                state: self.all_reset(),
                 refused: ACCEPTED,
             }
         } else {

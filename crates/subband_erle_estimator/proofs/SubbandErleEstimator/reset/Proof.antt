@@ -6,7 +6,7 @@ use Rattle.subband_erle_estimator.proofs.SubbandErleEstimator.reset.Tie
 
 returns : tie.Need-returns
 unfolding resetAnswer resetRefusal
-returns c = simp (sym (c .before .before .ok .ensures) ∙ c .before .if1 .taken, c .started .ensures)
+returns c = simp (sym (c .before .before .ok .ensures) ∙ c .before .if1 .taken, c .all-reset .ensures)
 
 returns-2 : tie.Need-returns-2
 unfolding resetAnswer resetRefusal
