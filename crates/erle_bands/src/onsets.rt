@@ -5,6 +5,7 @@ use crate::band::hold_less;
 use crate::band::wait_beside;
 use crate::band::wait_by;
 ghost use mathlib.Core.Path.{_≡_};
+ghost use mathlib.Core.Bool.{cond};
 ghost use lib.ListN.{length};
 ghost use Rattle.erle_bands.specs.Steps.{waitsBy, holdsBy, holdsLess, compensatedsBeside, waitsBeside};
 
@@ -28,8 +29,7 @@ pub fn hold_again(holds: &mut [i32; 65], e2: &[f32; 65], low: &[bool; 65])
     }
 }
 
-// One block less to hold.
-pub fn lower_holds(holds: &mut [i32; 65])
+fn lower_all(holds: &mut [i32; 65])
     requires { ⌜ length (now holds) ≡ 65 ⌝ }
     ensures { λ r. ⌜ now (holds .exit) ≡ holdsLess (now (holds .entry)) ⌝ }
 {
@@ -38,8 +38,17 @@ pub fn lower_holds(holds: &mut [i32; 65])
     }
 }
 
-// Compensated values beside the holds after the block.
-pub fn decay_compensated(erle: &mut [f32; 65], onsets: &[f32; 65], holds: &[i32; 65], min: f32)
+// One block less to hold, where onset detection is on.
+pub fn lower_holds(holds: &mut [i32; 65], on: bool)
+    requires { ⌜ length (now holds) ≡ 65 ⌝ }
+    ensures { λ r. ⌜ now (holds .exit) ≡ cond on (holdsLess (now (holds .entry))) (now (holds .entry)) ⌝ }
+{
+    if on {
+        lower_all(holds);
+    }
+}
+
+fn decay_all(erle: &mut [f32; 65], onsets: &[f32; 65], holds: &[i32; 65], min: f32)
     requires { ⌜ length (now erle) ≡ 65 ⌝ }
     ensures { λ r. ⌜ now (erle .exit) ≡ compensatedsBeside min (now (holds .entry)) (now (onsets .entry)) (now (erle .entry)) ⌝ }
 {
@@ -48,12 +57,37 @@ pub fn decay_compensated(erle: &mut [f32; 65], onsets: &[f32; 65], holds: &[i32;
     }
 }
 
-// Waiting beside the holds after the block.
-pub fn wait_again(waits: &mut [bool; 65], holds: &[i32; 65])
+// Compensated values beside the holds after the block.
+pub fn decay_compensated(
+    erle: &mut [f32; 65],
+    onsets: &[f32; 65],
+    holds: &[i32; 65],
+    min: f32,
+    on: bool,
+)
+    requires { ⌜ length (now erle) ≡ 65 ⌝ }
+    ensures { λ r. ⌜ now (erle .exit) ≡ cond on (compensatedsBeside min (now (holds .entry)) (now (onsets .entry)) (now (erle .entry))) (now (erle .entry)) ⌝ }
+{
+    if on {
+        decay_all(erle, onsets, holds, min);
+    }
+}
+
+fn wait_all(waits: &mut [bool; 65], holds: &[i32; 65])
     requires { ⌜ length (now waits) ≡ 65 ⌝ }
     ensures { λ r. ⌜ now (waits .exit) ≡ waitsBeside (now (holds .entry)) (now (waits .entry)) ⌝ }
 {
     for k in 1..64 {
         waits[k] = wait_beside(holds[k], waits[k]);
+    }
+}
+
+// Waiting beside the holds after the block.
+pub fn wait_again(waits: &mut [bool; 65], holds: &[i32; 65], on: bool)
+    requires { ⌜ length (now waits) ≡ 65 ⌝ }
+    ensures { λ r. ⌜ now (waits .exit) ≡ cond on (waitsBeside (now (holds .entry)) (now (waits .entry))) (now (waits .entry)) ⌝ }
+{
+    if on {
+        wait_all(waits, holds);
     }
 }

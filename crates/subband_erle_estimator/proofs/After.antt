@@ -21,7 +21,7 @@ use Rattle.erle_bands.proofs.Bands.{added-capture, added-residual, added-low, a
 use Rattle.subband_erle_estimator.specs.declared.settings.SubbandSettings.{SubbandSettings}
 use Rattle.subband_erle_estimator.specs.declared.channel.SubbandChannel.{SubbandChannel}
 use Rattle.subband_erle_estimator.specs.Channel.{Block, quiet, allPoints, pointsWith, coreAt, onsetAt, heard, isNew, maxAt, coreAfter, onsetAfter, channelAfter}
-use Rattle.subband_erle_estimator.specs.Steps.{limitsOf, onsetLearntBy, streamsLearntBy, learntBy, heardBy, convergedBy, restedBy, compensatedEnds}
+use Rattle.subband_erle_estimator.specs.Steps.{limitsOf, onsetLearntBy, streamsLearntBy, learntBy, heardBy, convergedBy, restedBy}
 
 -- each array of a record has 65 entries
 pub record Long (r : SubbandChannel) : Type 0 where
@@ -166,8 +166,8 @@ module _ (s : SubbandSettings) (b : Block) (c : SubbandChannel) where
     onset-stays k false e = ap (λ (o : Onset). o .onset) (sym (onset-after k false e))
 
     -- the whole record
-    pub after-learned : compensatedEnds (restedBy s r) ≡ channelAfter s b c
-    unfolding compensatedEnds restedBy channelAfter
+    pub after-learned : restedBy s r ≡ channelAfter s b c
+    unfolding restedBy channelAfter
     after-learned =
         λ i.
         record {
@@ -213,7 +213,7 @@ module _ (s : SubbandSettings) (c : SubbandChannel) (l : Long c) where
         points = refl;
       }
 
-  pub after-quiet : compensatedEnds (restedBy s c) ≡ channelAfter s quiet c
+  pub after-quiet : restedBy s c ≡ channelAfter s quiet c
   after-quiet = after-learned s quiet c c quiet-learned
 
 -- ---- a converged channel
@@ -513,7 +513,7 @@ module _ (s : SubbandSettings) (x y e : List Float) (c : SubbandChannel) (l : Lo
   converged-long = converged-learned .long
 
   pub after-converged :
-      compensatedEnds (restedBy s (convergedBy s x y e c))
+      restedBy s (convergedBy s x y e c)
       ≡ channelAfter s (record { converged = true; render = x; capture = y; residual = e }) c
   unfolding block
   after-converged = after-learned s block c (convergedBy s x y e c) converged-learned

@@ -1,6 +1,6 @@
 -- Records whose fields were changed one after the other, as one step each.
-use mathlib.Core.Path.{_≡_, sym}
-use mathlib.Core.Bool.{Bool, true, false}
+use mathlib.Core.Path.{_≡_, refl, sym}
+use mathlib.Core.Bool.{Bool, true, false, cond}
 use mathlib.Core.List.{List}
 use Prim.Native.Nat.{ℕ}
 use lib.Dec.{eqb}
@@ -13,7 +13,7 @@ use Rattle.erle_bands.specs.Steps.{sumsWith, lowsWith, ratiosOf, streamsBy, hol
 use Rattle.subband_erle_estimator.specs.declared.settings.SubbandSettings.{SubbandSettings}
 use Rattle.subband_erle_estimator.specs.declared.channel.SubbandChannel.{SubbandChannel}
 use Rattle.subband_erle_estimator.specs.Channel.{allPoints, pointsWith}
-use Rattle.subband_erle_estimator.specs.Steps.{limitsOf, onsetLearntBy, streamsLearntBy, learntBy, heardBy, convergedBy, restedBy, compensatedEnds}
+use Rattle.subband_erle_estimator.specs.Steps.{limitsOf, onsetLearntBy, streamsLearntBy, learntBy, heardBy, convergedBy, restedBy}
 
 -- the record with its three streams, waiting and holds changed
 abbrev pub withBands : SubbandChannel → List Float → List Float → List Float → List Bool → List ℤ → SubbandChannel
@@ -32,21 +32,19 @@ withBands c plain compensated uncapped waits holds =
     }
 
 module _ (s : SubbandSettings) (c : SubbandChannel) {plain uncapped : List Float} where
-  module _ (p : plain ≡ endsCopied (c .erle)) (u : uncapped ≡ endsCopied (c .«erle_unbounded»)) where
-    pub rested-on :
-        {compensated : List Float} {waits : List Bool} {holds : List ℤ}
-        → s .«onset_detection» ≡ true → holds ≡ holdsLess (c .«hold_counters»)
-        → compensated ≡ compensatedsBeside (s .min) holds (c .«erle_onsets») (c .«erle_onset_compensated»)
-        → waits ≡ waitsBeside holds (c .«coming_onset»)
-        → withBands c plain compensated uncapped waits holds ≡ restedBy s c
-    unfolding restedBy
-    rested-on on h q w = simp (q, w, h, p, u, on)
-
-    pub rested-off :
-        s .«onset_detection» ≡ false
-        → withBands c plain (c .«erle_onset_compensated») uncapped (c .«coming_onset») (c .«hold_counters») ≡ restedBy s c
-    unfolding restedBy
-    rested-off off = simp (p, u, off)
+  pub rested-is :
+      {compensated decayed : List Float} {waits : List Bool} {holds : List ℤ}
+      → holds ≡ cond (s .«onset_detection») (holdsLess (c .«hold_counters»)) (c .«hold_counters»)
+      → decayed ≡ cond (s .«onset_detection») (compensatedsBeside (s .min) holds (c .«erle_onsets») (c .«erle_onset_compensated»)) (c .«erle_onset_compensated»)
+      → waits ≡ cond (s .«onset_detection») (waitsBeside holds (c .«coming_onset»)) (c .«coming_onset»)
+      → plain ≡ endsCopied (c .erle) → compensated ≡ endsCopied decayed → uncapped ≡ endsCopied (c .«erle_unbounded»)
+      → withBands c plain compensated uncapped waits holds ≡ restedBy s c
+  unfolding restedBy
+  rested-is {compensated} {decayed} {waits} {holds} h d w p q u = go (s .«onset_detection») refl
+    where
+      go : (on : Bool) → s .«onset_detection» ≡ on → withBands c plain compensated uncapped waits holds ≡ restedBy s c
+      go true on = simp (q, d, w, h, p, u, on)
+      go false off = simp (q, d, w, h, p, u, off)
 
   module _
       {news : List Float} (n : news ≡ ratiosOf (c .y2) (c .e2))
@@ -70,14 +68,6 @@ module _ (s : SubbandSettings) (c : SubbandChannel) {plain uncapped : List Float
           ≡ learntBy s c
       unfolding learntBy
       learnt-on on = simp (streams-learnt, n, on)
-
--- bands 0 and 64 of the compensated stream
-pub compensated-ends :
-    (c : SubbandChannel) {compensated : List Float}
-    → compensated ≡ endsCopied (c .«erle_onset_compensated»)
-    → withBands c (c .erle) compensated (c .«erle_unbounded») (c .«coming_onset») (c .«hold_counters») ≡ compensatedEnds c
-unfolding compensatedEnds
-compensated-ends c e = simp e
 
 -- the sums, the noting and the points of a converged block
 module _ (x y e : List Float) (c : SubbandChannel) where

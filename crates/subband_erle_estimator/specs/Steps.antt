@@ -83,7 +83,7 @@ convergedBy s render capture residual c =
     let heard = heardBy render capture residual c in
     cond (eqb (heard .«num_points») allPoints) (learntBy s heard) heard
 
--- one block less to hold, and bands 0 and 64 of the plain and the uncapped stream
+-- one block less to hold, and bands 0 and 64 of the three streams
 unfoldable pub restedBy : SubbandSettings → SubbandChannel → SubbandChannel
 restedBy s c =
     let on = s .«onset_detection» in
@@ -91,27 +91,11 @@ restedBy s c =
     record {
       erle = endsCopied (c .erle);
       «erle_onset_compensated» =
-          cond on (compensatedsBeside (s .min) holds (c .«erle_onsets») (c .«erle_onset_compensated»)) (c .«erle_onset_compensated»);
+          endsCopied (cond on (compensatedsBeside (s .min) holds (c .«erle_onsets») (c .«erle_onset_compensated»)) (c .«erle_onset_compensated»));
       «erle_unbounded» = endsCopied (c .«erle_unbounded»);
       «erle_onsets» = c .«erle_onsets»;
       «coming_onset» = cond on (waitsBeside holds (c .«coming_onset»)) (c .«coming_onset»);
       «hold_counters» = cond on holds (c .«hold_counters»);
-      y2 = c .y2;
-      e2 = c .e2;
-      «low_render_energy» = c .«low_render_energy»;
-      «num_points» = c .«num_points»;
-    }
-
--- bands 0 and 64 of the compensated stream
-unfoldable pub compensatedEnds : SubbandChannel → SubbandChannel
-compensatedEnds c =
-    record {
-      erle = c .erle;
-      «erle_onset_compensated» = endsCopied (c .«erle_onset_compensated»);
-      «erle_unbounded» = c .«erle_unbounded»;
-      «erle_onsets» = c .«erle_onsets»;
-      «coming_onset» = c .«coming_onset»;
-      «hold_counters» = c .«hold_counters»;
       y2 = c .y2;
       e2 = c .e2;
       «low_render_energy» = c .«low_render_energy»;

@@ -131,21 +131,21 @@ impl SubbandChannel {
         if points == POINTS_TO_ACCUMULATE {
             self = self.learnt(settings);
         }
+        let on = settings.onset_detection;
+        lower_holds(&mut self.hold_counters, on);
+        let holds = self.hold_counters;
+        let onsets = self.erle_onsets;
+        decay_compensated(
+            &mut self.erle_onset_compensated,
+            &onsets,
+            &holds,
+            settings.min,
+            on,
+        );
+        wait_again(&mut self.coming_onset, &holds, on);
         copy_ends(&mut self.erle);
-        copy_ends(&mut self.erle_unbounded);
-        if settings.onset_detection {
-            lower_holds(&mut self.hold_counters);
-            let holds = self.hold_counters;
-            let onsets = self.erle_onsets;
-            decay_compensated(
-                &mut self.erle_onset_compensated,
-                &onsets,
-                &holds,
-                settings.min,
-            );
-            wait_again(&mut self.coming_onset, &holds);
-        }
         copy_ends(&mut self.erle_onset_compensated);
+        copy_ends(&mut self.erle_unbounded);
         self
     }
 
@@ -153,21 +153,21 @@ impl SubbandChannel {
     pub fn decay(mut self, settings: SubbandSettings) -> SubbandChannel
         ensures { λ r. ⌜ r ≡ channelAfter settings quiet self ⌝ }
     {
+        let on = settings.onset_detection;
+        lower_holds(&mut self.hold_counters, on);
+        let holds = self.hold_counters;
+        let onsets = self.erle_onsets;
+        decay_compensated(
+            &mut self.erle_onset_compensated,
+            &onsets,
+            &holds,
+            settings.min,
+            on,
+        );
+        wait_again(&mut self.coming_onset, &holds, on);
         copy_ends(&mut self.erle);
-        copy_ends(&mut self.erle_unbounded);
-        if settings.onset_detection {
-            lower_holds(&mut self.hold_counters);
-            let holds = self.hold_counters;
-            let onsets = self.erle_onsets;
-            decay_compensated(
-                &mut self.erle_onset_compensated,
-                &onsets,
-                &holds,
-                settings.min,
-            );
-            wait_again(&mut self.coming_onset, &holds);
-        }
         copy_ends(&mut self.erle_onset_compensated);
+        copy_ends(&mut self.erle_unbounded);
         self
     }
 

@@ -1,49 +1,13 @@
--- Each band of 1 to k stands beside its hold. The measure is the bands left.
+use borrow.Author.Needs.{needs}
 use mathlib.Core.Path.{_∙_}
-use Prim.Native.Nat.{_-_}
-use lib.Ieee.{nan}
-use lib.IntN.{pos}
-use lib.ListN.{getD}
-use Rattle.aec3_common.proofs.Loops.{loops}
-use Rattle.aec3_common.proofs.Holds.{read-back}
-use Rattle.aec3_common.proofs.Tables.{Stored, stored-more, stored-not-yet, stored-inner}
-use Rattle.erle_bands.specs.Steps.{compensatedBeside, compensatedsBeside}
 use Rattle.erle_bands.proofs.onsets.decay_compensated.Statement.{statement}
 use Rattle.erle_bands.proofs.onsets.decay_compensated.Tie as tie
 
-abbrev Inv-loop : tie.InvT-loop
-Inv-loop erle₀ onsets holds min k₀ erle k = Stored 65 nan 1 64 (λ j. compensatedBeside min (getD holds j (pos 0)) (getD onsets j nan) (getD erle₀ j nan)) erle₀ erle k
+returns : tie.Need-returns
+returns c = c .decay-all .ensures ∙ simp (c .before .before .if1 .taken)
 
-abbrev μ-loop : tie.MeasureT-loop
-μ-loop erle₀ onsets holds min k₀ erle k = 64 - k
-
-loop-again : tie.Need-loop-again Inv-loop μ-loop
-loop-again c =
-    let inv = c .before .before .before .before .before .loop .inv in
-    let same = read-back (getD (c .before .before .before .before .before .before .args .holds .now) (c .before .before .before .before .before .loop .k) (pos 0)) (c .before .before .before .compensated-beside-arg .given) in
-    stored-more _ inv (search loops) (search loops) (c .compensated-beside .ensures ∙ simp (same, stored-not-yet inv))
-
-returns : tie.Need-returns Inv-loop μ-loop
-unfolding compensatedsBeside
-returns c = stored-inner (c .before .loop .inv) (c .loop-test .left)
+returns-2 : tie.Need-returns-2
+returns-2 c = simp (c .if1 .left)
 
 pub decay-compensated-spec : {M : Type 1} → statement M
-decay-compensated-spec =
-    tie.close
-    (tie.spec
-    Inv-loop
-    μ-loop
-    (λ c. search loops)
-    (λ c. search loops)
-    (λ c. search loops)
-    (λ c. search loops)
-    (λ c. search loops)
-    (λ c. search loops)
-    (λ c. search loops)
-    (λ c κs. search loops)
-    (λ c. search loops)
-    (λ c. search loops)
-    (λ c. search loops)
-    (λ c. search loops)
-    loop-again
-    returns)
+decay-compensated-spec = tie.close (tie.spec (λ c κs. search needs) returns returns-2)

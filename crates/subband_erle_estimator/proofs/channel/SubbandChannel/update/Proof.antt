@@ -3,9 +3,9 @@ use borrow.Author.Tests.{eq-eqb, ne-eqb}
 use mathlib.Core.Logic.{⊎-elim}
 use mathlib.Core.Path.{_≡_, _∙_, ap, sym, subst}
 use Rattle.subband_erle_estimator.specs.declared.channel.SubbandChannel.{SubbandChannel}
-use Rattle.subband_erle_estimator.specs.Steps.{heardBy, convergedBy, restedBy, compensatedEnds}
+use Rattle.subband_erle_estimator.specs.Steps.{heardBy, convergedBy, restedBy}
 use Rattle.subband_erle_estimator.proofs.After.{Long, converged-long, after-converged}
-use Rattle.subband_erle_estimator.proofs.Records.{heard-is, converged-six, converged-few, rested-on, rested-off, compensated-ends}
+use Rattle.subband_erle_estimator.proofs.Records.{heard-is, converged-six, converged-few, rested-is}
 use Rattle.subband_erle_estimator.proofs.channel.SubbandChannel.update.Statement.{statement}
 use Rattle.subband_erle_estimator.proofs.channel.SubbandChannel.update.Tie as tie
 
@@ -68,32 +68,21 @@ whole c =
     subst Long (sym (converged c)) (converged-long (a .settings) (a .x2 .now) (a .y2 .now) (a .e2 .now) (a .t1) (long (c .before .before .before .before .before .before .before .before .before .before .before)))
 
 lower-holds-requires : tie.Need-lower-holds-requires
-lower-holds-requires c κs = whole (c .before .before .before .before .before .before) .hold
+lower-holds-requires c κs = whole (c .before) .hold
 
 decay-compensated-requires : tie.Need-decay-compensated-requires
-decay-compensated-requires c κs = whole (c .before .before .before .before .before .before .before .before .before .before .before .before) .compensated
+decay-compensated-requires c κs = whole (c .before .before .before .before .before .before .before) .compensated
 
 wait-again-requires : tie.Need-wait-again-requires
-wait-again-requires c κs = whole (c .before .before .before .before .before .before .before .before .before .before .before .before .before .before .before) .waits
-
--- one block less to hold, where onset detection is on
-rested : (c : tie.Joined2) → c .if2 .self ≡ restedBy (c .before .before .before .before .before .before .before .before .before .before .before .before .before .before .before .before .args .settings) (c .before .before .before .before .before .if1 .self)
-rested c =
-    let plain = c .before .before .before .copy-ends .ensures in
-    let uncapped = c .before .copy-ends2 .ensures in
-    let s = c .before .before .before .before .before .before .before .before .before .before .before .before .before .before .before .before .args .settings in
-    let r = c .before .before .before .before .before .if1 .self in
-    ⊎-elim
-    (λ w. w .12 ∙ rested-on s r plain uncapped (w .0 .taken) (w .2 .ensures) (w .8 .ensures) (w .11 .ensures))
-    (λ w. w .1 ∙ rested-off s r plain uncapped (w .0 .left))
-    (c .if2 .came)
+wait-again-requires c κs = whole (c .before .before .before .before .before .before .before .before .before .before) .waits
 
 returns : tie.Need-returns
 returns c =
-    let a = c .before .before .before .before .before .before .before .before .before .before .before .before .before .before .before .before .before .before .args in
-    compensated-ends (c .before .before .if2 .self) (c .copy-ends3 .ensures)
-    ∙ ap compensatedEnds (rested (c .before .before) ∙ ap (restedBy (a .settings)) (converged (c .before .before .before .before .before .before .before)))
-    ∙ after-converged (a .settings) (a .x2 .now) (a .y2 .now) (a .e2 .now) (a .t1) (long (c .before .before .before .before .before .before .before .before .before .before .before .before .before .before .before .before .before .before))
+    let a = c .before .before .before .before .before .before .before .before .before .before .before .before .before .before .before .before .before .before .before .before .before .before .before .before .before .before .before .before .args in
+    rested-is (a .settings) (c .before .before .before .before .before .before .before .before .before .before .before .before .before .before .before .before .before .if1 .self) (c .before .before .before .before .before .before .before .before .before .before .before .before .before .before .before .lower-holds .ensures) (c .before .before .before .before .before .before .before .before .before .decay-compensated .ensures) (c .before .before .before .before .before .before .wait-again .ensures)
+    (c .before .before .before .before .copy-ends .ensures) (c .before .before .copy-ends2 .ensures) (c .copy-ends3 .ensures)
+    ∙ ap (restedBy (a .settings)) (converged (c .before .before .before .before .before .before .before .before .before .before .before .before .before .before .before .before .before))
+    ∙ after-converged (a .settings) (a .x2 .now) (a .y2 .now) (a .e2 .now) (a .t1) (long (c .before .before .before .before .before .before .before .before .before .before .before .before .before .before .before .before .before .before .before .before .before .before .before .before .before .before .before .before))
 
 pub update-spec : {M : Type 1} → statement M
 update-spec =
@@ -104,10 +93,10 @@ update-spec =
     note-low-energy-requires
     (λ c κs. search needs)
     (λ c κs. search needs)
-    (λ c κs. search needs)
-    (λ c κs. search needs)
     lower-holds-requires
     decay-compensated-requires
     wait-again-requires
+    (λ c κs. search needs)
+    (λ c κs. search needs)
     (λ c κs. search needs)
     returns)
