@@ -2,7 +2,8 @@
 
 use crate::audio_processing::aec3::erl_estimator::ErlEstimator;
 use crate::judge::{self, Judged};
-use crate::lines::{Answer, Lines};
+use crate::kinds::answer_call;
+use crate::lines::Lines;
 use crate::record::{push_lists, Fields, Malformed, Record};
 
 pub const START: u16 = 0x0110;
@@ -38,25 +39,16 @@ impl Erl {
 
     fn update(&mut self, body: Fields<'_>, lines: &mut Lines) -> Result<(), Malformed> {
         let call = Call::read(body)?;
-        match &mut self.estimator {
-            Some(estimator) => {
-                let done = call.update(estimator).map(|()| "ok");
-                lines.push(format_args!("erl {}", Answer(done)));
-            }
-            None => lines.push(format_args!("erl none")),
-        }
+        answer_call("erl", "ok", &mut self.estimator, lines, |e| call.update(e));
         Ok(())
     }
 
     fn reset(&mut self, body: Fields<'_>, lines: &mut Lines) -> Result<(), Malformed> {
         body.end()?;
-        match &mut self.estimator {
-            Some(estimator) => {
-                estimator.reset();
-                lines.push(format_args!("erl reset"));
-            }
-            None => lines.push(format_args!("erl none")),
-        }
+        answer_call("erl", "reset", &mut self.estimator, lines, |estimator| {
+            estimator.reset();
+            Ok(())
+        });
         Ok(())
     }
 

@@ -4,7 +4,8 @@ pub mod erl;
 pub mod leaves;
 pub mod subband;
 
-use crate::lines::Lines;
+use crate::judge::Judged;
+use crate::lines::{Answer, Lines};
 use crate::program::Program;
 use crate::record::{Malformed, Record};
 use erl::Erl;
@@ -37,5 +38,23 @@ impl Groups {
             },
             Self::ReplaySubband(subband) => subband.answer(record, lines),
         }
+    }
+}
+
+/// The line of a call to the estimator that stands: the word for it done, its
+/// refusal, or that none stands.
+fn answer_call<T>(
+    name: &str,
+    done: &str,
+    estimator: &mut Option<T>,
+    lines: &mut Lines,
+    call: impl FnOnce(&mut T) -> Judged,
+) {
+    match estimator {
+        Some(estimator) => {
+            let answer = Answer(call(estimator).map(|()| done));
+            lines.push(format_args!("{name} {answer}"));
+        }
+        None => lines.push(format_args!("{name} none")),
     }
 }

@@ -3,7 +3,8 @@
 use crate::api::config::EchoCanceller3Config;
 use crate::audio_processing::aec3::subband_erle_estimator::{peek_channel, SubbandErleEstimator};
 use crate::judge::{self, Judged, Refusal};
-use crate::lines::{fields, Answer, Lines};
+use crate::kinds::answer_call;
+use crate::lines::{fields, Lines};
 use crate::record::{push_lists, Fields, Malformed, Record};
 use std::ops::RangeInclusive;
 
@@ -63,25 +64,24 @@ impl Subband {
     /// The same update so many times, with one answer.
     fn update(&mut self, times: u32, body: Fields<'_>, lines: &mut Lines) -> Result<(), Malformed> {
         let call = Call::read(body)?;
-        match &mut self.estimator {
-            Some(estimator) => {
-                let done = call.repeat(times, estimator).map(|()| "ok");
-                lines.push(format_args!("subband {}", Answer(done)));
-            }
-            None => lines.push(format_args!("subband none")),
-        }
+        answer_call("subband", "ok", &mut self.estimator, lines, |e| {
+            call.repeat(times, e)
+        });
         Ok(())
     }
 
     fn reset(&mut self, body: Fields<'_>, lines: &mut Lines) -> Result<(), Malformed> {
         body.end()?;
-        match &mut self.estimator {
-            Some(estimator) => {
+        answer_call(
+            "subband",
+            "reset",
+            &mut self.estimator,
+            lines,
+            |estimator| {
                 estimator.reset();
-                lines.push(format_args!("subband reset"));
-            }
-            None => lines.push(format_args!("subband none")),
-        }
+                Ok(())
+            },
+        );
         Ok(())
     }
 }
