@@ -25,7 +25,7 @@ use Rattle.aec3_common.specs.Refusal.{accepted}
 use Rattle.aec3_common.specs.Spectra.{shownBand, flagged, sum}
 use Rattle.aec3_common.proofs.Bands.{shown-below}
 use Rattle.aec3_common.proofs.Choices.{and-left, and-right}
-use Rattle.aec3_common.proofs.Rounding.{failed, holds, Minus, infinite, finite, round-minus, minus-below, round-number, at-least-if-not-below, at-most-if-not-above}
+use Rattle.aec3_common.proofs.Rounding.{failed, holds, signed-number, Minus, infinite, finite, round-minus, minus-below, round-number, at-least-if-not-below, at-most-if-not-above}
 use Rattle.aec3_common.proofs.Tables.{getD-tab}
 use Rattle.erl_estimator.specs.declared.ErlEstimator.{ErlEstimator}
 use Rattle.erl_estimator.specs.declared.figure.Figure.{Figure}
@@ -146,16 +146,11 @@ unfolding ofBits le
 raised-either y true e n few = refl
 raised-either y false e n few = in-range y (at-least-if-not-below minErl y tt n (failed e)) (few refl)
 
-minus-number : {y : Float} → Minus y → T (not (isNan y))
-unfolding isNan
-minus-number infinite = tt
-minus-number (finite m e) = tt
-
 -- and it is raised to 0.01 from below
 raised-in-range : {y : Float} → Lands y → inRange (larger y minErl) ≡ true
 unfolding larger
 raised-in-range {y = y} (below s) =
-    raised-either y (lt y minErl) refl (minus-number s)
+    raised-either y (lt y minErl) refl (signed-number s)
     (λ e. absurd (T-not (lt y minErl) (failed e) (minus-below s minErl least-positive)))
 raised-in-range (within w c some few) =
     raised-either (round binary32 false w c) (lt (round binary32 false w c) minErl) refl (round-number binary32 false w c)
