@@ -9,9 +9,10 @@ use lib.Dec.{ltb, eqb}
 use lib.Ieee.{Float, nan}
 use lib.ListN.{length, getD, take, drop, set, length-set, length-drop}
 use lib.Seq.{getD-set-same, getD-set-other, length-take-le}
-use Rattle.aec3_common.specs.Lists.{tab}
+use Rattle.aec3_common.specs.Lists.{tab, every}
 use Rattle.aec3_common.specs.Spectra.{part, innerBand, shownBand, endsCopied}
 use Rattle.aec3_common.proofs.Choices.{and-left, and-right}
+use Rattle.aec3_common.proofs.Every.{every-take, every-drop}
 use Rattle.aec3_common.proofs.Tables.{tab-is}
 
 -- the part that code lends, from ch * 65 to 65 further on
@@ -24,6 +25,11 @@ lent-part spectra ch =
 pub part-length : (spectra : List Float) (ch : ℕ) → ch * 65 + 65 ≤ length spectra → length (part spectra ch) ≡ 65
 unfolding part
 part-length spectra ch h = length-take-le 65 (drop (ch * 65) spectra) (omega (arith, length-drop (ch * 65) spectra))
+
+-- what every value passes, a channel's values do
+pub part-every : (p : Float → Bool) (spectra : List Float) (ch : ℕ) → every p spectra ≡ true → every p (part spectra ch) ≡ true
+unfolding part
+part-every p spectra ch ok = every-take p 65 (drop (ch * 65) spectra) (every-drop p (ch * 65) spectra ok)
 
 -- a band that is shown is an inner band
 pub shown-inner : (k : ℕ) → k < 65 → innerBand (shownBand k) ≡ true

@@ -1,5 +1,5 @@
 -- Tests joined by && and ||, choices between two values, and the first refusal of a chain.
-use mathlib.Core.Path.{_≡_, refl}
+use mathlib.Core.Path.{_≡_, refl, sym}
 use mathlib.Core.Bool.{Bool, true, false, cond, _&&_, false≢true}
 use Prim.Native.Nat.{ℕ, suc}
 use native.Mathlib.Omega.{arith}
@@ -24,6 +24,10 @@ and-false false = refl
 pub and-assoc : (a b c : Bool) → (a && b) && c ≡ a && (b && c)
 and-assoc true b c = refl
 and-assoc false b c = refl
+
+pub and-comm : (a b : Bool) → a && b ≡ b && a
+and-comm true b = sym (and-true b)
+and-comm false b = sym (and-false b)
 
 -- joined tests that pass, one by one
 pub each-of-three : (a b c : Bool) → a && b && c ≡ true → (a ≡ true) × (b ≡ true) × (c ≡ true)

@@ -6,7 +6,7 @@ use Prim.Native.Nat.{ℕ, zero, suc, _+_, _≤_, _<_}
 use native.Mathlib.Nat.{le-of-suc-le-suc, not-suc-le-zero}
 use native.Mathlib.Numerals.{add-one}
 use native.Mathlib.Omega.{arith}
-use lib.ListN.{length, getD, take}
+use lib.ListN.{length, getD, take, drop}
 use lib.Seq.{take-all}
 use Rattle.aec3_common.specs.Lists.{every}
 use Rattle.aec3_common.proofs.Choices.{and-left, and-right, and-true, and-assoc}
@@ -25,6 +25,19 @@ pub every-by : {A : Type 0} (p : A → Bool) (xs : List A) (d : A) → ((k : ℕ
 unfolding every
 every-by p [] d each = refl
 every-by p (x ∷ xs) d each = rw (each 0 (omega arith)) (every-by p xs d (λ k h. each (suc k) (omega arith)))
+
+-- and then every one of a part does
+pub every-take : {A : Type 0} (p : A → Bool) (n : ℕ) (xs : List A) → every p xs ≡ true → every p (take n xs) ≡ true
+unfolding every
+every-take p zero xs e = refl
+every-take p (suc n) [] e = refl
+every-take p (suc n) (x ∷ xs) e = rw (and-left (p x) (every p xs) e) (every-take p n xs (and-right (p x) (every p xs) e))
+
+pub every-drop : {A : Type 0} (p : A → Bool) (n : ℕ) (xs : List A) → every p xs ≡ true → every p (drop n xs) ≡ true
+unfolding every
+every-drop p zero xs e = e
+every-drop p (suc n) [] e = e
+every-drop p (suc n) (x ∷ xs) e = every-drop p n xs (and-right (p x) (every p xs) e)
 
 -- one entry more
 every-more :

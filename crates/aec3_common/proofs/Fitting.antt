@@ -2,22 +2,23 @@
 use mathlib.Core.Path.{_≡_, refl, sym, ap, _∙_, subst}
 use mathlib.Core.Bool.{Bool, true, false, not, _&&_, cond}
 use Prim.Native.Nat.{ℕ, zero, suc, _+_, _-_, _*_, _/_, _%_, _^_, _≤_, _<_}
-use native.Mathlib.Nat.{le-trans, le-refl, le-of-eq, le-antisymm, lt-irrefl, lt-of-lt-of-le, mul-one, mul-assoc, mul-left-comm, mul-right-comm, mul-le-mul-right, mul-lt-mul-of-pos-right, mul-pos}
+use native.Mathlib.Nat.{le-trans, le-refl, le-of-eq, zero-mul, add-mul, le-antisymm, lt-irrefl, lt-of-lt-of-le, mul-one, mul-assoc, mul-left-comm, mul-right-comm, mul-le-mul-right, mul-lt-mul-of-pos-right, mul-pos}
 use native.Mathlib.Omega.{arith}
+use borrow.Author.Tests.{lt-ltb}
 use lib.Dec.{T, leb, ltb, eqb, leb→le, nleb→lt, ltb→lt, lit<}
 use lib.IntN.{ℤ, pos, negsuc}
 use lib.Pow.{pow-add, pow-pos, pow-lt, pow-mono, shl-lt}
-use lib.Ieee.{Float, nan, inf, fin, Format, binary32, prec, low, hid, top, up, down, size, round, mul, lt, le, fits, toBits, ofBits}
+use lib.Ieee.{Float, nan, inf, fin, Format, binary32, prec, low, hid, top, up, down, size, round, sum, add, mul, lt, le, fits, toBits, ofBits}
 use lib.Ieee.Bits.{ofBits-toBits}
 use lib.Ieee.Digits.{back}
 use lib.Ieee.Exact.{HasValue, round-exact}
-use lib.Ieee.Fits.{and-l, and-r, round-fits}
+use lib.Ieee.Fits.{up-pos, down-pos, and-l, and-r, round-fits}
 use lib.Ieee.Nearest.{div-same}
 use lib.Ieee.Order.{le-of-values, round-mono}
 use lib.Ieee.Positive.{num, den, positive, den-pos, own-value, above, above-of-le, positive-of-value, value-pos, le→cross, cross→le, mul-at}
-use Rattle.aec3_common.specs.Binary32.{clamped}
+use Rattle.aec3_common.specs.Binary32.{zero32, clamped}
 use Rattle.aec3_common.proofs.Numbers.{number}
-use Rattle.aec3_common.proofs.Rounding.{failed, at-least-if-not-below, at-most-if-not-above}
+use Rattle.aec3_common.proofs.Rounding.{Signed, infinite, finite, failed, at-least-if-not-below, at-most-if-not-above}
 
 -- ---- numbers between two
 
@@ -148,3 +149,30 @@ times-at-most q x p h r t =
     (round-mono binary32 (num q * num x) (den q * den x) (num x) (den x) (mul-pos (den-pos q) (den-pos x)) (den-pos x)
     (le-trans (le-of-eq (mul-assoc (num q) (num x) (den x)))
     (le-trans (mul-le-mul-right (num x * den x) h) (le-of-eq (mul-left-comm (den q) (num x) (den x)))))))
+
+-- ---- what is above zero
+
+above-zero : (x : Float) → T (above x) → lt zero32 x ≡ true
+unfolding lt ofBits
+above-zero nan p = absurd p
+above-zero (inf true) p = absurd p
+above-zero (inf false) p = refl
+above-zero (fin true m e) p = absurd p
+above-zero (fin false m e) p = rw (zero-mul (down e), mul-one (m * up e)) (lt-ltb 0 (m * up e) (mul-pos (ltb→lt 0 m p) (up-pos e)))
+
+-- a quotient, or what else has a plus sign, is above zero once a positive number is added
+pub plus-above : {x : Float} → Signed false x → (y : Float) → T (positive y) → T (fits binary32 y) → lt zero32 (add binary32 x y) ≡ true
+unfolding add sum lt ofBits
+plus-above x nan p t = absurd p
+plus-above x (inf s) p t = absurd p
+plus-above x (fin true n d) p t = absurd p
+plus-above infinite (fin false n d) p t = refl
+plus-above (finite m e) (fin false n d) p t =
+    let y = fin false n d in
+    let w = m * up e * down d + n * up d * down e in
+    let c = down e * down d in
+    above-zero (round binary32 false w c)
+    (above-of-le y (round binary32 false w c) p
+    (subst (λ (z : Float). T (le z (round binary32 false w c))) (rounds-to-itself y p t)
+    (round-mono binary32 (n * up d) (down d) w c (down-pos d) (mul-pos (down-pos e) (down-pos d))
+    (rw add-mul (omega (arith, mul-assoc (n * up d) (down e) (down d)))))))

@@ -1,14 +1,16 @@
 -- Signed numbers of 32 bits: what is read back, and a hold that falls.
-use mathlib.Core.Path.{_≡_}
-use mathlib.Core.Bool.{false}
+use mathlib.Core.Path.{_≡_, refl, sym, ap, _∙_}
+use mathlib.Core.Bool.{true, false}
 use Prim.Native.Nat.{ℕ, zero, suc, _<_, _^_}
 use native.Mathlib.Omega.{arith}
 use borrow.Author.Tests.{leb-false, le-ltb}
+use lib.Dec.{eqb·suc-zero}
 use lib.IntN.{ℤ, pos, negsuc, _-ℤ_}
 use lib.Signed.{mag, leZ}
 use mir.Syntax.{w32}
 use mir.Val.{SFits, toZ, ofZ}
 use mir.Facts.{toZ-ofZ}
+use Rattle.aec3_common.specs.Counts.{isZero}
 
 -- a number in range is read back as it was, as a call's `.ok` or an array's element gives its range
 pub read-back : (z : ℤ) → mag z < 2 ^ 31 → toZ w32 (ofZ w32 z) ≡ z
@@ -24,3 +26,12 @@ pub less-fits : {z : ℤ} → SFits w32 z → leZ (toZ w32 (ofZ w32 z)) (negsuc 
 less-fits {z = z} f e =
     let back = toZ-ofZ f in
     record { sfits = simp back (mag-less z (f .sfits) (simp back at e)) }
+
+-- the word of a hold is 0 where the hold is exactly 0
+pub word-zero : (z : ℤ) → mag z < 2 ^ 31 → ofZ w32 z ≡ 0 → isZero z ≡ true
+word-zero z h e = ap isZero (sym (read-back z h) ∙ ap (toZ w32) e)
+
+pub word-not-zero : (z : ℤ) → (ofZ w32 z ≡ 0 → ⊥) → isZero z ≡ false
+word-not-zero (pos zero) e = absurd (e refl)
+word-not-zero (pos (suc n)) e = eqb·suc-zero n
+word-not-zero (negsuc n) e = refl

@@ -8,6 +8,7 @@ pub mod Loops
 pub mod Bands
 pub mod Sums
 pub mod Ranges
+pub mod Calls
 pub mod Rounding
 pub mod Numbers
 pub mod Fitting

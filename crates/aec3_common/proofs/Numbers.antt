@@ -1,8 +1,9 @@
 -- What the estimators' operations give: no NaN where none goes in, and sums of bounded size.
-use mathlib.Core.Path.{_≡_, refl, sym, _∙_, subst}
+use mathlib.Core.Path.{_≡_, refl, sym, ap, _∙_, subst}
+use mathlib.Core.List.{List, [], _∷_}
 use mathlib.Core.Bool.{Bool, true, false, not, _&&_, _||_, cond, Bool·beq, false≢true, true≢false}
 use Prim.Native.Nat.{ℕ, zero, suc, _+_, _-_, _*_, _^_, _≤_, _<_, zero-le}
-use native.Mathlib.Nat.{le-trans, le-of-eq, le-of-lt, sub-le, zero-mul, mul-one, mul-assoc, mul-right-comm, add-mul, mul-le-mul-right, mul-pos, zero-lt-suc}
+use native.Mathlib.Nat.{le-trans, le-of-eq, le-of-lt, lt-of-lt-of-le, sub-le, add-zero, add-suc, suc-add, zero-mul, one-mul, suc-mul, mul-one, mul-assoc, mul-right-comm, add-mul, mul-le-mul-right, mul-lt-mul-of-pos-right, mul-pos, zero-lt-suc}
 use native.Mathlib.Omega.{arith}
 use borrow.Author.Tests.{ltb-true, le-ltb}
 use lib.Dec.{T, ltb, eqb, eqb→eq, ltb→lt, eqb·suc-zero, lit<, lit≤}
@@ -10,15 +11,19 @@ use lib.IntN.{ℤ, pos}
 use lib.Ieee.{Float, nan, inf, fin, Format, binary32, up, down, round, sum, add, sub, mul, div, lt, le, isNan, ofBits}
 use lib.Ieee.Back.{round-whole}
 use lib.Ieee.Bits.{is-true}
-use lib.Ieee.Exact.{HasValue, units-val}
+use lib.Ieee.Exact.{HasValue, round-exact, units-val}
 use lib.Ieee.Fits.{up-pos, down-pos, and-l, round-is}
 use lib.Ieee.Order.{kept, round-mono, le-of-values}
 use lib.Ieee.Order.{drop as dropped}
-use lib.Ieee.Positive.{positive, le→cross, through}
+use lib.Ieee.Positive.{positive, le→cross, through, above, above-of-le}
 use lib.Ieee.Scale.{grid, round-under}
 use lib.Ieee.Scale.{finite as isFinite}
-use Rattle.aec3_common.specs.Binary32.{zero32, greatestValue, greatestSum, within, moved}
+use lib.ListN.{length}
+use lib.Pow.{pow-pos}
+use Rattle.aec3_common.specs.Binary32.{zero32, greatestValue, greatestSum, within, valuesOk, moved}
+use Rattle.aec3_common.specs.Lists.{every}
 use Rattle.aec3_common.specs.Settings.{greatestErle}
+use Rattle.aec3_common.specs.Spectra.{sumFrom}
 use Rattle.aec3_common.proofs.Choices.{and-left, and-right}
 use Rattle.aec3_common.proofs.Rounding.{holds, Signed, infinite, finite, round-signed, round-number}
 
@@ -72,21 +77,37 @@ pub data Value (k : ℕ) : Float → Type 0 where
   plain : {x : Float} → UpTo k x → Value k x
   minusZero : (e : ℤ) → Value k (fin true 0 e)
 
--- what number 6 lets pass
-pub value-within : (x : Float) → within greatestValue x ≡ true → Value (2 ^ 100) x
+-- what lies in 0 to 2^j
+value-at-most : (j : ℕ) (x : Float) → within (fin false 1 (pos j)) x ≡ true → Value (2 ^ j) x
 unfolding le ofBits
-value-within x ok = go x (holds (and-left (le zero32 x) (le x greatestValue) ok)) (holds (and-right (le zero32 x) (le x greatestValue) ok))
+value-at-most j x ok =
+    let hi = fin false 1 (pos j) in
+    go x (holds (and-left (le zero32 x) (le x hi) ok)) (holds (and-right (le zero32 x) (le x hi) ok))
   where
     none : (m : ℕ) (e : ℤ) → T (eqb (0 * 1 * down e) (suc m * up e * 1) && (false || eqb (0 * 1 * down e) 0)) → ⊥
     none m e t = omega (arith, eqb→eq (0 * 1 * down e) (suc m * up e * 1) (and-l (eqb (0 * 1 * down e) (suc m * up e * 1)) _ t), mul-pos (zero-lt-suc m) (up-pos e))
 
-    go : (y : Float) → T (le zero32 y) → T (le y greatestValue) → Value (2 ^ 100) y
+    go : (y : Float) → T (le zero32 y) → T (le y (fin false 1 (pos j))) → Value (2 ^ j) y
     go nan p q = absurd p
     go (inf true) p q = absurd p
     go (inf false) p q = absurd q
     go (fin true zero e) p q = minusZero e
     go (fin true (suc m) e) p q = absurd (none m e p)
-    go (fin false m e) p q = plain (upTo m e (le-trans (le-of-eq (sym (mul-one (m * up e)))) (at-most (m * up e * 1) (2 ^ 100 * down e) q)))
+    go (fin false m e) p q =
+        plain
+        (upTo m e
+        (le-trans (le-of-eq (sym (mul-one (m * up e))))
+        (le-trans (at-most (m * up e * 1) (1 * 2 ^ j * down e) q) (le-of-eq (ap (λ (z : ℕ). z * down e) (one-mul (2 ^ j)))))))
+
+-- what number 6 lets pass
+pub value-within : (x : Float) → within greatestValue x ≡ true → Value (2 ^ 100) x
+unfolding ofBits
+value-within = value-at-most 100
+
+-- what number 20 lets pass of a sum
+pub sum-within : (x : Float) → within greatestSum x ≡ true → Value (2 ^ 110) x
+unfolding ofBits
+sum-within = value-at-most 110
 
 -- x / p + y / q ≤ a + b
 sum-few : (x y a b p q : ℕ) → x ≤ a * p → y ≤ b * q → x * q + y * p ≤ (a + b) * (p * q)
@@ -105,6 +126,48 @@ add-up-to a b (upTo m e h) (minusZero d) whole =
     rw (zero-mul (up d), zero-mul (down e), le-ltb (m * up e * down d) 0 zero-le)
     (round-up-to (m * up e * down d - 0) (down e * down d) (a + b) (mul-pos (down-pos e) (down-pos d))
     (omega (arith, sum-few (m * up e) 0 a b (down e) (down d) h zero-le)) whole)
+
+-- the same with the terms the other way round
+pub add-to-up-to : (a b : ℕ) {x y : Float} → Value a x → UpTo b y → Whole (a + b) → UpTo (a + b) (add binary32 x y)
+unfolding add sum
+add-to-up-to a b (plain u) v whole = add-up-to a b u (plain v) whole
+add-to-up-to a b (minusZero e) (upTo n d l) whole =
+    rw (zero-mul (up e), zero-mul (down d)) (go (ltb 0 (n * up d * down e)) refl)
+  where
+    under : (w : ℕ) → w ≤ n * up d * down e → UpTo (a + b) (round binary32 false w (down e * down d))
+    under w h =
+        round-up-to w (down e * down d) (a + b) (mul-pos (down-pos e) (down-pos d))
+        (le-trans h (omega (arith, sum-few 0 (n * up d) a b (down e) (down d) zero-le l))) whole
+
+    go :
+        (t : Bool) → ltb 0 (n * up d * down e) ≡ t
+        → UpTo (a + b) (cond t (round binary32 false (n * up d * down e - 0) (down e * down d)) (round binary32 (true && ltb (n * up d * down e) 0) (0 - n * up d * down e) (down e * down d)))
+    go true q = under (n * up d * down e - 0) (sub-le (n * up d * down e) 0)
+    go false q = rw (le-ltb (n * up d * down e) 0 zero-le) (under (0 - n * up d * down e) (omega arith))
+
+-- binary32 holds small multiples of 2^100
+pub whole-multiple : (n : ℕ) → n < 2 ^ 24 → Whole (n * 2 ^ 100)
+whole-multiple n few =
+    round-exact binary32 false (n * 2 ^ 100) 1 n 249 (lit< tt) few
+    (lt-of-lt-of-le (mul-lt-mul-of-pos-right few (pow-pos 249)) (lit≤ tt))
+    (mul-assoc n (2 ^ 100) (2 ^ 149) ∙ sym (mul-one (n * 2 ^ 249)))
+
+-- the sum of no values
+pub no-sum : UpTo 0 zero32
+unfolding ofBits
+no-sum = upTo 0 (pos 0) (lit≤ tt)
+
+-- values added up in order, on a sum of n values
+pub sum-up-to :
+    (n : ℕ) (xs : List Float) {from : Float} → UpTo (n * 2 ^ 100) from → valuesOk xs ≡ true → n + length xs < 2 ^ 24
+    → UpTo ((n + length xs) * 2 ^ 100) (sumFrom from xs)
+unfolding sumFrom every
+sum-up-to n [] u ok few = rw add-zero u
+sum-up-to n (x ∷ xs) {from} u ok few =
+    let first = value-within x (and-left (within greatestValue x) (every (within greatestValue) xs) ok) in
+    let whole : Whole (n * 2 ^ 100 + 2 ^ 100) = rw suc-mul at (whole-multiple (suc n) (omega arith)) in
+    let more : UpTo (suc n * 2 ^ 100) (add binary32 from x) = rw suc-mul (add-up-to (n * 2 ^ 100) (2 ^ 100) u first whole) in
+    rw (add-suc, ← suc-add) (sum-up-to (suc n) xs more (and-right (within greatestValue x) (every (within greatestValue) xs) ok) (omega arith))
 
 -- a held sum may be any number up to 2^110
 pub up-to-within : {k : ℕ} {x : Float} → UpTo k x → k ≤ 2 ^ 110 → within greatestSum x ≡ true

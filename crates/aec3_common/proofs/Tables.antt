@@ -1,13 +1,13 @@
 -- Lists by their entries, and loops that store one entry a turn.
 use mathlib.Core.Path.{_≡_, refl, sym, ap, _∙_, subst}
 use mathlib.Core.Bool.{Bool, true, false, cond, _&&_}
-use mathlib.Core.List.{List, [], _∷_}
+use mathlib.Core.List.{List, [], _∷_, map}
 use Prim.Native.Nat.{ℕ, zero, suc, _+_, _≤_, _<_}
 use native.Mathlib.Nat.{le-of-suc-le-suc, not-suc-le-zero, le-refl}
 use native.Mathlib.Omega.{arith}
 use borrow.Author.Count.{below-more}
 use borrow.Author.Tests.{ltb-true, ltb-false}
-use lib.ListN.{length, getD, set, length-set}
+use lib.ListN.{length, length-map, getD, set, length-set}
 use lib.Seq.{ext-getD, getD-set-same, getD-set-other}
 use lib.Dec.{ltb}
 use Rattle.aec3_common.specs.Lists.{tab}
@@ -36,6 +36,10 @@ tab-is n d f xs long at =
 -- tables with the same entries are the same
 pub tab-same : {A : Type 0} (n : ℕ) (d : A) (f g : ℕ → A) → ((k : ℕ) → k < n → f k ≡ g k) → tab n f ≡ tab n g
 tab-same n d f g same = tab-is n d g (tab n f) (length-tab n f) (λ k b. getD-tab n f k d b ∙ same k b)
+
+-- a list of records is as long as the list of what they hold, which is what is known of an array of them
+pub length-mapped : (A B : Type 0) (f : A → B) (l : List A) (n : ℕ) → length (map f l) ≡ n → length l ≡ n
+length-mapped A B f l n e = sym (length-map l f) ∙ e
 
 -- What a loop has done at k that stores f k at each k from lo to below hi: r has n entries, those of f from lo to below
 -- k, and those of xs elsewhere.

@@ -16,6 +16,10 @@ one32 = ofBits binary32 0x3f80_0000
 abbrev pub energyThreshold : Float
 energyThreshold = ofBits binary32 0x4c27_e777
 
+-- T times 65, rounded to 2,860,979,456: the threshold of a sum over all bands
+abbrev pub sumThreshold : Float
+sumThreshold = ofBits binary32 0x4f2a_8715
+
 -- 2^100, the greatest spectrum or response value
 abbrev pub greatestValue : Float
 greatestValue = ofBits binary32 0x7180_0000
@@ -28,11 +32,11 @@ greatestSum = ofBits binary32 0x7680_0000
 unfoldable pub clamped : Float → Float → Float → Float
 clamped x lo hi = cond (lt x lo) lo (cond (lt hi x) hi x)
 
--- the larger of two; the first unless the second is above it
+-- the larger of two; the first unless the second is above it, so a NaN that stands first stays
 unfoldable pub larger : Float → Float → Float
 larger a b = cond (lt a b) b a
 
--- the smaller of two; the first unless the second is below it
+-- the smaller of two; the first unless the second is below it, so a NaN that stands first stays
 unfoldable pub smaller : Float → Float → Float
 smaller a b = cond (lt b a) b a
 

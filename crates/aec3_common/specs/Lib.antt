@@ -5,4 +5,5 @@ pub mod Counts
 pub mod Spectra
 pub mod Log2
 pub mod Settings
+pub mod Calls
 pub mod Constants

@@ -1,7 +1,7 @@
 -- The numbers under which a call or a record is turned away, and how the first of them in order is found.
 use mathlib.Core.Bool.{Bool, cond, _&&_}
 use Prim.Native.Nat.{ℕ}
-use lib.Dec.{leb}
+use lib.Dec.{leb, eqb}
 
 -- the call is accepted
 abbrev pub accepted : ℕ
@@ -85,3 +85,7 @@ fromTo lo hi n = leb lo n && leb n hi
 -- The refusal n where a test fails, else what the later tests say. A chain of these gives the first refusal in order.
 abbrev pub unless : Bool → ℕ → ℕ → ℕ
 unless test n later = cond test later n
+
+-- a refusal that was found, else what the later tests say
+abbrev pub firstOf : ℕ → ℕ → ℕ
+firstOf n later = cond (eqb n accepted) later n

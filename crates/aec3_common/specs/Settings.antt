@@ -5,7 +5,7 @@ use lib.Dec.{leb}
 use lib.Ieee.{Float, binary32, ofBits, le}
 use Rattle.aec3_common.specs.declared.settings.ErleSettings.{ErleSettings}
 use Rattle.aec3_common.specs.Binary32.{one32}
-use Rattle.aec3_common.specs.Refusal.{fromTo, unless, accepted, badLimits, badChannelCount, badSections}
+use Rattle.aec3_common.specs.Refusal.{fromTo, unless, firstOf, accepted, badLimits, badChannelCount, badSections}
 
 -- the limits of the domain
 abbrev pub maxCaptureChannels : ℕ
@@ -56,10 +56,16 @@ unfoldable pub sectionsOk : ℕ → ℕ → ℕ → Bool
 sectionsOk sections length samples =
     rangesOk sections length samples && (leb sections 1 || roomForSections sections length (headroomBlocks samples))
 
+-- the first of 1 and 2, or 0
+unfoldable pub limitsAndChannelsRefusal : Float → Float → Float → ℕ → ℕ
+limitsAndChannelsRefusal min maxL maxH channels =
+    unless (limitsOk min maxL maxH) badLimits
+    (unless (captureChannelsOk channels) badChannelCount
+    accepted)
+
 -- the first of 1, 2 and 3 that the settings break
 unfoldable pub settingsRefusal : ErleSettings → ℕ
 settingsRefusal s =
-    unless (limitsOk (s .min) (s .«max_l») (s .«max_h»)) badLimits
-    (unless (captureChannelsOk (s .«num_capture_channels»)) badChannelCount
+    firstOf (limitsAndChannelsRefusal (s .min) (s .«max_l») (s .«max_h») (s .«num_capture_channels»))
     (unless (sectionsOk (s .«num_sections») (s .«filter_length_blocks») (s .«delay_headroom_samples»)) badSections
-    accepted))
+    accepted)

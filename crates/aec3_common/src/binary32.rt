@@ -43,7 +43,8 @@ pub fn moved(old: f32, new: f32, share: f32) -> f32
     old + share * (new - old)
 }
 
-fn is_within(x: f32, hi: f32) -> bool
+// Whether x lies in 0 to hi.
+pub fn is_within(x: f32, hi: f32) -> bool
     ensures { λ r. ⌜ r ≡ within hi x ⌝ }
 {
     (0.0 <= x) & (x <= hi)

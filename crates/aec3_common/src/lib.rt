@@ -1,6 +1,7 @@
 // What every estimator shares: the bands, the refusal numbers, binary32 helpers, the settings and log2.
 pub mod binary32;
 pub mod counts;
+pub mod judge;
 pub mod log2;
 pub mod refusal;
 pub mod settings;
@@ -26,3 +27,6 @@ pub const BLOCK_SIZE: usize = 64;
 
 // T, the render power that parts bands with energy from bands with little.
 pub const X2_BAND_ENERGY_THRESHOLD: f32 = 44_015_068.0;
+
+// T times 65, for a render sum over all bands.
+pub const X2_SUM_ENERGY_THRESHOLD: f32 = 2_860_979_456.0;

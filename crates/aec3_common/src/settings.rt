@@ -6,7 +6,7 @@ use crate::refusal::BAD_LIMITS;
 use crate::refusal::BAD_SECTIONS;
 ghost use mathlib.Core.Path.{_≡_};
 ghost use Rattle.aec3_common.specs.Refusal.{fromTo};
-ghost use Rattle.aec3_common.specs.Settings.{headroomBlocks, limitsOk, captureChannelsOk, renderChannelsOk, rangesOk, sectionsOk, settingsRefusal};
+ghost use Rattle.aec3_common.specs.Settings.{headroomBlocks, limitsOk, captureChannelsOk, renderChannelsOk, rangesOk, sectionsOk, limitsAndChannelsRefusal, settingsRefusal};
 
 // 100,000, above which no ERLE goes.
 pub const GREATEST_ERLE: f32 = 100_000.0;
@@ -92,23 +92,40 @@ pub fn sections_ok(sections: usize, length: usize, samples: usize) -> bool
     }
 }
 
+// The first of 1 and 2, or 0.
+pub fn limits_and_channels_refusal(min: f32, max_l: f32, max_h: f32, channels: usize) -> u32
+    ensures { λ r. ⌜ r ≡ limitsAndChannelsRefusal min «max_l» «max_h» channels ⌝ }
+{
+    if !limits_ok(min, max_l, max_h) {
+        BAD_LIMITS
+    } else if !capture_channels_ok(channels) {
+        BAD_CHANNEL_COUNT
+    } else {
+        ACCEPTED
+    }
+}
+
 impl ErleSettings {
     // The first of 1, 2 and 3 that the settings break, or 0.
     pub fn refusal(self) -> u32
         ensures { λ r. ⌜ r ≡ settingsRefusal self ⌝ }
     {
-        if !limits_ok(self.min, self.max_l, self.max_h) {
-            BAD_LIMITS
-        } else if !capture_channels_ok(self.num_capture_channels) {
-            BAD_CHANNEL_COUNT
-        } else if !sections_ok(
+        let refused = limits_and_channels_refusal(
+            self.min,
+            self.max_l,
+            self.max_h,
+            self.num_capture_channels,
+        );
+        if refused != ACCEPTED {
+            refused
+        } else if sections_ok(
             self.num_sections,
             self.filter_length_blocks,
             self.delay_headroom_samples,
         ) {
-            BAD_SECTIONS
-        } else {
             ACCEPTED
+        } else {
+            BAD_SECTIONS
         }
     }
 }

@@ -18,7 +18,7 @@ use lib.Ieee.Bits.{is-true}
 use lib.Ieee.Fits.{down-pos}
 use lib.Ieee.Order.{round-mono}
 use lib.Ieee.Positive.{positive, le→cross, between, le-trans-positive, mul-mono}
-use Rattle.aec3_common.specs.Binary32.{energyThreshold, larger, smaller, moved}
+use Rattle.aec3_common.specs.Binary32.{energyThreshold, larger, smaller, moved, sumThreshold}
 use Rattle.aec3_common.specs.Counts.{oneMore, fallen}
 use Rattle.aec3_common.specs.Lists.{tab}
 use Rattle.aec3_common.specs.Refusal.{accepted}
@@ -29,7 +29,7 @@ use Rattle.aec3_common.proofs.Rounding.{failed, holds, signed-number, Minus, in
 use Rattle.aec3_common.proofs.Tables.{getD-tab}
 use Rattle.erl_estimator.specs.declared.ErlEstimator.{ErlEstimator}
 use Rattle.erl_estimator.specs.declared.figure.Figure.{Figure}
-use Rattle.erl_estimator.specs.Erl.{minErl, maxErl, share, two32, timeDomainThreshold, learns, learnt, doubled, rested, afterBlock, bandAfter, reduced, started, withCount, afterReset, learntFrom, processed, updated, updateRefusal, updateAnswer}
+use Rattle.erl_estimator.specs.Erl.{minErl, maxErl, share, two32, learns, learnt, doubled, rested, afterBlock, bandAfter, reduced, started, withCount, afterReset, learntFrom, processed, updated, updateRefusal, updateAnswer}
 use Rattle.erl_estimator.specs.Range.{Call, update, reset, after, run, inRange, FiguresInRange}
 
 -- ---- a figure in range
@@ -233,7 +233,7 @@ learnt-kept s render capture kept =
           (record { erl = getD (s .erl) (shownBand k) nan; hold = getD (s .«hold_counters») (shownBand k - 1) (pos 0) })
           (kept .bands (shownBand k) (shown-below k h));
       time =
-          after-in-range timeDomainThreshold (sum render) (sum capture)
+          after-in-range sumThreshold (sum render) (sum capture)
           (record { erl = s .«erl_time_domain»; hold = s .«hold_counter_time_domain» }) (kept .time);
     }
 

@@ -8,7 +8,7 @@ use lib.Signed.{leZ}
 use lib.Ieee.{Float, nan, binary32, ofBits, mul, div, lt}
 use lib.ListN.{length, getD}
 use Rattle.aec3_common.specs.Lists.{tab}
-use Rattle.aec3_common.specs.Binary32.{energyThreshold, larger, smaller, moved, valuesOk}
+use Rattle.aec3_common.specs.Binary32.{energyThreshold, sumThreshold, larger, smaller, moved, valuesOk}
 use Rattle.aec3_common.specs.Counts.{oneMore, fallen}
 use Rattle.aec3_common.specs.Refusal.{unless, accepted, badChannelCount, badLength, badValue}
 use Rattle.aec3_common.specs.Settings.{captureChannelsOk, renderChannelsOk}
@@ -30,10 +30,6 @@ share = ofBits binary32 0x3dcc_cccd
 
 abbrev pub two32 : Float
 two32 = ofBits binary32 0x4000_0000
-
--- T times 65, rounded to 2,860,979,456: the threshold of the time-domain value
-abbrev pub timeDomainThreshold : Float
-timeDomainThreshold = ofBits binary32 0x4f2a_8715
 
 -- ---- one figure: an ERL and its hold
 
@@ -111,7 +107,7 @@ unfoldable pub learntFrom : ErlEstimator → List Float → List Float → ErlEs
 learntFrom s render capture =
     let band : ℕ → Figure = bandAfter render capture (s .erl) (s .«hold_counters») in
     let time : Figure =
-    afterBlock timeDomainThreshold (sum render) (sum capture)
+    afterBlock sumThreshold (sum render) (sum capture)
     (record { erl = s .«erl_time_domain»; hold = s .«hold_counter_time_domain» }) in
     record {
       erl = tab 65 (λ k. band (shownBand k) .erl);

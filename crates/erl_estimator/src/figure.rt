@@ -1,22 +1,20 @@
 // One figure: an ERL and its hold.
+use aec3_common::X2_SUM_ENERGY_THRESHOLD;
 use aec3_common::counts::fallen;
 use aec3_common::larger;
 use aec3_common::moved;
 use aec3_common::smaller;
 use aec3_common::spectra::sum;
 ghost use mathlib.Core.Path.{_≡_};
-ghost use Rattle.aec3_common.specs.Binary32.{larger as Binary32·larger, moved as Binary32·moved};
+ghost use Rattle.aec3_common.specs.Binary32.{sumThreshold, larger as Binary32·larger, moved as Binary32·moved};
 ghost use Rattle.aec3_common.specs.Spectra.{sum as Spectra·sum};
-ghost use Rattle.erl_estimator.specs.Erl.{share, minErl, timeDomainThreshold, learns as Erl·learns, learnt as Erl·learnt, doubled as Erl·doubled, rested as Erl·rested, afterBlock};
+ghost use Rattle.erl_estimator.specs.Erl.{share, minErl, learns as Erl·learns, learnt as Erl·learnt, doubled as Erl·doubled, rested as Erl·rested, afterBlock};
 
 const MIN_ERL: f32 = 0.01;
 
 pub const MAX_ERL: f32 = 1000.0;
 
 pub const HOLD_BLOCKS: i32 = 1000;
-
-// T times 65, rounded.
-const TIME_DOMAIN_THRESHOLD: f32 = 2_860_979_456.0;
 
 pub struct Figure {
     pub erl: f32,
@@ -78,11 +76,11 @@ fn after_block(threshold: f32, render: f32, capture: f32, f: Figure) -> Figure
 
 // The time-domain figure one block later. The captures are added up only where their sum is looked at.
 pub fn time_domain_after(f: Figure, render: &[f32], capture: &[f32]) -> Figure
-    ensures { λ r. ⌜ r ≡ afterBlock timeDomainThreshold (Spectra·sum (now (render .entry))) (Spectra·sum (now (capture .entry))) f ⌝ }
+    ensures { λ r. ⌜ r ≡ afterBlock sumThreshold (Spectra·sum (now (render .entry))) (Spectra·sum (now (capture .entry))) f ⌝ }
 {
     let render_sum = sum(render);
-    if render_sum > TIME_DOMAIN_THRESHOLD {
-        after_block(TIME_DOMAIN_THRESHOLD, render_sum, sum(capture), f)
+    if render_sum > X2_SUM_ENERGY_THRESHOLD {
+        after_block(X2_SUM_ENERGY_THRESHOLD, render_sum, sum(capture), f)
     } else {
         rested(f)
     }

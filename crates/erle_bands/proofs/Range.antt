@@ -18,7 +18,7 @@ use Rattle.aec3_common.specs.Counts.{fallen}
 use Rattle.aec3_common.specs.Settings.{greatestErle}
 use Rattle.aec3_common.proofs.Choices.{cond-has}
 use Rattle.aec3_common.proofs.Fitting.{Between, level, clamped-between, times-at-most}
-use Rattle.aec3_common.proofs.Numbers.{number, UpTo, upTo, Value, Whole, add-up-to, ratio-plus, moved-number}
+use Rattle.aec3_common.proofs.Numbers.{number, UpTo, upTo, Value, Whole, no-sum, add-up-to, whole-multiple, ratio-plus, moved-number}
 use Rattle.aec3_common.proofs.Rounding.{Signed}
 use Rattle.erle_bands.specs.Band.{shareUp, shareDown, decayFactor, share, streamMoved, Core, emptied, added, hasRatio, ratio, learnt, Onset, onsetLearnt, decayed, oneBlockLess}
 
@@ -108,19 +108,6 @@ pub record CoreKept (n : ℕ) (min max : Float) (c : Core) : Type 0 where
   pub plain : Between min max (c .plain)
   pub uncapped : Between min greatestErle (c .uncapped)
 
--- binary32 holds the bounds of up to six points
-whole-bound : (n : ℕ) → n ≤ 6 → Whole (n * 2 ^ 100)
-whole-bound n few =
-    let fewer : n < 7 = omega arith in
-    round-exact binary32 false (n * 2 ^ 100) 1 n 249 (lit< tt) (omega arith)
-    (lt-of-lt-of-le (mul-lt-mul-of-pos-right fewer (pow-pos 249)) (lit≤ tt))
-    (mul-assoc n (2 ^ 100) (2 ^ 149) ∙ sym (mul-one (n * 2 ^ 249)))
-
--- the sum of no points
-pub no-sum : UpTo 0 zero32
-unfolding ofBits
-no-sum = upTo 0 (pos 0) (lit≤ tt)
-
 pub emptied-kept : {n : ℕ} {min max : Float} {c : Core} → CoreKept n min max c → CoreKept 0 min max (emptied c)
 unfolding emptied
 emptied-kept kept = record { capture = no-sum; residual = no-sum; plain = kept .plain; uncapped = kept .uncapped }
@@ -131,7 +118,7 @@ pub added-kept :
     → CoreKept n min max c → CoreKept (suc n) min max (added render capture residual c)
 unfolding added
 added-kept {n} render few capture residual kept =
-    let whole : Whole (n * 2 ^ 100 + 2 ^ 100) = rw suc-mul at (whole-bound (suc n) few) in
+    let whole : Whole (n * 2 ^ 100 + 2 ^ 100) = rw suc-mul at (whole-multiple (suc n) (omega arith)) in
     record {
       capture = rw suc-mul (add-up-to (n * 2 ^ 100) (2 ^ 100) (kept .capture) capture whole);
       residual = rw suc-mul (add-up-to (n * 2 ^ 100) (2 ^ 100) (kept .residual) residual whole);

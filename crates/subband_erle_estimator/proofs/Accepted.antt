@@ -1,6 +1,6 @@
 -- No state of a run is turned away under 20: after n of at most 6 points a sum is at most n times 2^100.
 use mathlib.Core.Path.{_≡_}
-use mathlib.Core.Bool.{Bool, true, false, _&&_}
+use mathlib.Core.Bool.{Bool, true, false}
 use mathlib.Core.List.{List}
 use Prim.Native.Nat.{ℕ, _*_, _^_, _≤_, _<_}
 use native.Mathlib.Nat.{le-trans, mul-le-mul-right}
@@ -10,7 +10,8 @@ use lib.Dec.{eqb, lit≤}
 use lib.Ieee.{Float, nan}
 use lib.ListN.{length, getD, take, length-take}
 use lib.Seq.{getD-take}
-use Rattle.aec3_common.specs.Binary32.{greatestSum, within, valuesOk, sumsOk}
+use Rattle.aec3_common.specs.Binary32.{greatestSum, within, sumsOk}
+use Rattle.aec3_common.specs.Calls.{lengthsOk, valuesInRange, callRefusal}
 use Rattle.aec3_common.specs.Refusal.{unless, accepted}
 use Rattle.aec3_common.proofs.Every.{every-by}
 use Rattle.aec3_common.proofs.Numbers.{UpTo, up-to-within}
@@ -18,7 +19,7 @@ use Rattle.subband_erle_estimator.specs.declared.settings.SubbandSetting
 use Rattle.subband_erle_estimator.specs.declared.channel.SubbandChannel.{SubbandChannel}
 use Rattle.subband_erle_estimator.specs.declared.SubbandErleEstimator.{SubbandErleEstimator}
 use Rattle.subband_erle_estimator.specs.Channel.{allPoints}
-use Rattle.subband_erle_estimator.specs.Subband.{settingsRefusal, channelOk, stateOk, lengthsOk, updateRefusal, resetRefusal, startAnswer, resetAnswer, updateAnswer, noChannel}
+use Rattle.subband_erle_estimator.specs.Subband.{settingsRefusal, channelOk, stateOk, updateRefusal, resetRefusal, startAnswer, resetAnswer, updateAnswer, noChannel}
 use Rattle.subband_erle_estimator.specs.Resting.{Call, update, reset, answer, run}
 use Rattle.subband_erle_estimator.specs.Accepted.{NeverBadState}
 use Rattle.subband_erle_estimator.proofs.Channels.{ChannelKept}
@@ -51,10 +52,10 @@ state-ok g s e kept =
     rw (getD-take n (s .channels) ch noChannel below) (channel-ok g (getD (s .channels) ch noChannel) (kept .channels ch below))))
 
 answer-not-20 : (s : SubbandErleEstimator) (c : Call) → stateOk s ≡ true → answer s c .refused ≡ 20 → ⊥
-unfolding answer updateAnswer updateRefusal resetAnswer resetRefusal
+unfolding answer updateAnswer updateRefusal callRefusal resetAnswer resetRefusal
 answer-not-20 s (update channels converged render capture residual) ok e =
     go (eqb channels (s .settings .«num_capture_channels»)) (lengthsOk channels converged render capture residual)
-    (valuesOk render && valuesOk capture && valuesOk residual) (rw ok at e)
+    (valuesInRange render capture residual) (rw ok at e)
   where
     go : (a b c : Bool) → unless a 21 (unless b 5 (unless c 6 0)) ≡ 20 → ⊥
     go true true true e = omega arith

@@ -10,13 +10,13 @@ use lib.Ieee.{Float, nan, le}
 use lib.ListN.{length, getD}
 use lib.Seq.{getD-take, getD-drop}
 use Rattle.aec3_common.specs.Binary32.{one32, greatestValue, within, valuesOk}
-use Rattle.aec3_common.specs.Refusal.{unless, accepted}
-use Rattle.aec3_common.specs.Settings.{greatestErle, limitsOk, captureChannelsOk}
+use Rattle.aec3_common.specs.Refusal.{accepted}
+use Rattle.aec3_common.specs.Settings.{greatestErle}
 use Rattle.aec3_common.specs.Spectra.{part}
-use Rattle.aec3_common.proofs.Choices.{and-left, and-right, each-of-three, each-of-four, cond-has, passed, later-passed}
+use Rattle.aec3_common.proofs.Calls.{limits-passed, few-channels, update-ok}
+use Rattle.aec3_common.proofs.Choices.{and-left, and-right, each-of-four, cond-has}
 use Rattle.aec3_common.proofs.Every.{every-at}
 use Rattle.aec3_common.proofs.Numbers.{Value, value-within}
-use Rattle.aec3_common.proofs.Ranges.{to-hi}
 use Rattle.aec3_common.proofs.Rounding.{holds}
 use Rattle.aec3_common.proofs.Tables.{getD-tab}
 use Rattle.filter_sections.specs.Subbands.{maxErle}
@@ -24,9 +24,8 @@ use Rattle.erle_bands.proofs.Range.{InOrder}
 use Rattle.subband_erle_estimator.specs.declared.settings.SubbandSettings.{SubbandSettings}
 use Rattle.subband_erle_estimator.specs.declared.SubbandErleEstimator.{SubbandErleEstimator}
 use Rattle.subband_erle_estimator.specs.Channel.{fresh, channelAfter}
-use Rattle.subband_erle_estimator.specs.Subband.{settingsRefusal, stateOk, lengthsOk, updateRefusal, resetRefusal, started, startAnswer, resetAnswer, noChannel, channelAt, blockOf, updated, updateAnswer}
+use Rattle.subband_erle_estimator.specs.Subband.{settingsRefusal, stateOk, updateRefusal, resetRefusal, started, startAnswer, resetAnswer, noChannel, channelAt, blockOf, updated, updateAnswer}
 use Rattle.subband_erle_estimator.specs.Resting.{Call, update, reset, answer, run, InBinary32}
-use Rattle.subband_erle_estimator.proofs.Judged.{update-ok}
 use Rattle.subband_erle_estimator.proofs.Channels.{AllInOrder, ChannelKept, fresh-kept, after-kept}
 
 -- ---- settings
@@ -40,11 +39,9 @@ pub record SettingsOk (g : SubbandSettings) : Type 0 where
 pub settings-ok : (g : SubbandSettings) → InBinary32 g → startAnswer g .refused ≡ accepted → SettingsOk g
 unfolding startAnswer settingsRefusal maxErle
 settings-ok g inBinary32 e =
-    let limits = limitsOk (g .min) (g .«max_l») (g .«max_h») in
-    let channels = captureChannelsOk (g .«num_capture_channels») in
     let capped = le (g .«max_h») greatestErle in
     let lower = le one32 (g .min) && le (g .min) (g .«max_l») && le (g .min) (g .«max_h») && le (g .«max_l») greatestErle in
-    let all : lower && capped ≡ true = passed limits 0 (unless channels 2 0) e in
+    let all : lower && capped ≡ true = limits-passed (g .min) (g .«max_l») (g .«max_h») (g .«num_capture_channels») e in
     let (one, minL, minH, topL) =
     each-of-four (le one32 (g .min)) (le (g .min) (g .«max_l»)) (le (g .min) (g .«max_h»)) (le (g .«max_l») greatestErle) (and-left lower capped all) in
     let limitsL : InOrder (g .min) (g .«max_l») =
@@ -59,7 +56,7 @@ settings-ok g inBinary32 e =
     } in
     record {
       limits = λ k. cond-has (InOrder (g .min)) (ltb k 32) (λ t. limitsL) (λ t. limitsH);
-      channels = to-hi 1 4 (g .«num_capture_channels») (passed channels 1 0 (later-passed limits 0 (unless channels 2 0) e));
+      channels = few-channels (g .min) (g .«max_l») (g .«max_h») (g .«num_capture_channels») e;
     }
 
 -- ---- a state
@@ -110,9 +107,9 @@ module _ (g : SubbandSettings) (ok : SettingsOk g) where
   pub updated-kept :
       (s : SubbandErleEstimator) (channels : ℕ) (converged : List Bool) (render capture residual : List Float) → Kept g s
       → updateRefusal s channels converged render capture residual ≡ accepted → Kept g (updated s converged render capture residual)
-  unfolding updated
+  unfolding updated updateRefusal
   updated-kept s channels converged render capture residual kept e =
-      let given = rw (kept .settings) at (update-ok s channels converged render capture residual e) in
+      let given = rw (kept .settings) at (update-ok (stateOk s) (s .settings .«num_capture_channels») channels converged render capture residual e) in
       let n = g .«num_capture_channels» in
       record {
         settings = kept .settings;

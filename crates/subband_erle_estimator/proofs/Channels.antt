@@ -13,11 +13,11 @@ use Rattle.aec3_common.specs.Lists.{tab}
 use Rattle.aec3_common.specs.Spectra.{innerBand, shownBand}
 use Rattle.aec3_common.proofs.Bands.{shown-inner, inner-shown, shown-below}
 use Rattle.aec3_common.proofs.Choices.{and-right, and-false, cond-has}
-use Rattle.aec3_common.proofs.Numbers.{Value}
+use Rattle.aec3_common.proofs.Numbers.{Value, no-sum}
 use Rattle.aec3_common.proofs.Tables.{length-tab, getD-tab}
 use Rattle.filter_sections.specs.Subbands.{maxErle}
 use Rattle.erle_bands.specs.Band.{emptied, added, hasRatio, Onset, onsetLearnt, oneBlockLess}
-use Rattle.erle_bands.proofs.Range.{InOrder, min-between, uncapped-in-order, no-sum, CoreKept, emptied-kept, added-kept, ratio-signed, learnt-kept, OnsetKept, onset-learnt-kept, one-block-less-kept}
+use Rattle.erle_bands.proofs.Range.{InOrder, min-between, uncapped-in-order, CoreKept, emptied-kept, added-kept, ratio-signed, learnt-kept, OnsetKept, onset-learnt-kept, one-block-less-kept}
 use Rattle.subband_erle_estimator.specs.declared.settings.SubbandSettings.{SubbandSettings}
 use Rattle.subband_erle_estimator.specs.declared.channel.SubbandChannel.{SubbandChannel}
 use Rattle.subband_erle_estimator.specs.Channel.{coreAt, onsetAt, Block, allPoints, pointsWith, fresh, heard, isNew, coreAfter, onsetAfter, channelAfter}

@@ -1,41 +1,35 @@
--- What the judging of a state and of a call tells.
-use mathlib.Core.Path.{_≡_, refl, sym, ap, _∙_}
+-- What the judging of a state tells.
+use mathlib.Core.Path.{_≡_, refl, ap, _∙_}
 use mathlib.Core.Bool.{Bool, true, false, cond, _&&_}
-use mathlib.Core.List.{List, map}
-use Prim.Native.Nat.{ℕ, _+_, _*_, _≤_, _<_}
+use Prim.Native.Nat.{ℕ, _+_, _≤_, _<_}
 use native.Mathlib.Omega.{arith}
 use borrow.Author.Tests.{eqb-true, leb-true}
 use lib.Dec.{leb, eqb}
-use lib.Ieee.{Float}
-use lib.ListN.{length, length-map, getD, take}
+use lib.ListN.{length, getD, take}
 use lib.Seq.{getD-take, length-take-le}
-use Rattle.aec3_common.specs.Binary32.{valuesOk, sumsOk}
+use Rattle.aec3_common.specs.Binary32.{sumsOk}
 use Rattle.aec3_common.specs.Lists.{every}
-use Rattle.aec3_common.specs.Refusal.{accepted, badChannelCount, unless}
-use Rattle.aec3_common.specs.Settings.{maxCaptureChannels, limitsOk, captureChannelsOk}
-use Rattle.aec3_common.proofs.Choices.{and-left, and-right, passed, later-passed, each-of-three, each-of-four}
+use Rattle.aec3_common.specs.Refusal.{accepted}
+use Rattle.aec3_common.proofs.Calls.{few-channels}
+use Rattle.aec3_common.proofs.Choices.{and-left, and-right, each-of-three}
 use Rattle.aec3_common.proofs.Every.{every-at, Tested, tested-none, tested-more}
-use Rattle.aec3_common.proofs.Ranges.{to-hi}
 use Rattle.subband_erle_estimator.specs.declared.settings.SubbandSettings.{SubbandSettings}
 use Rattle.subband_erle_estimator.specs.declared.SubbandErleEstimator.{SubbandErleEstimator}
 use Rattle.subband_erle_estimator.specs.Channel.{allPoints}
-use Rattle.subband_erle_estimator.specs.Subband.{settingsRefusal, channelOk, stateOk, lengthsOk, valuesInRange, updateRefusal, noChannel, channelAt}
+use Rattle.subband_erle_estimator.specs.Subband.{settingsRefusal, channelOk, stateOk, noChannel, channelAt}
 use Rattle.subband_erle_estimator.specs.Steps.{judgedChannels}
 
 -- settings that pass have at most four channels
-pub few-channels : (s : SubbandSettings) → eqb (settingsRefusal s) accepted ≡ true → s .«num_capture_channels» ≤ 4
+settings-few : (s : SubbandSettings) → eqb (settingsRefusal s) accepted ≡ true → s .«num_capture_channels» ≤ 4
 unfolding settingsRefusal
-few-channels s ok =
-    let none = eqb-true _ _ ok in
-    let limits = passed (limitsOk (s .min) (s .«max_l») (s .«max_h»)) 0 (unless (captureChannelsOk (s .«num_capture_channels»)) badChannelCount accepted) none in
-    to-hi 1 maxCaptureChannels (s .«num_capture_channels») (passed (captureChannelsOk (s .«num_capture_channels»)) 1 accepted (rw limits at none))
+settings-few s ok = few-channels (s .min) (s .«max_l») (s .«max_h») (s .«num_capture_channels») (eqb-true _ _ ok)
 
 pub judged-few : (s : SubbandSettings) → judgedChannels s ≤ 4
 unfolding judgedChannels
 judged-few s = go (eqb (settingsRefusal s) accepted) refl
   where
     go : (t : Bool) → eqb (settingsRefusal s) accepted ≡ t → cond t (s .«num_capture_channels») 0 ≤ 4
-    go true ok = few-channels s ok
+    go true ok = settings-few s ok
     go false ok = omega arith
 
 -- the settings, and the records that were looked at, make number 20
@@ -56,12 +50,8 @@ state-judged s k ok e told = go (eqb (settingsRefusal (s .settings)) accepted) e
 pub state-few : (s : SubbandErleEstimator) → stateOk s ≡ true → s .settings .«num_capture_channels» ≤ 4
 unfolding stateOk
 state-few s ok =
-    few-channels (s .settings)
+    settings-few (s .settings)
     (and-left (eqb (settingsRefusal (s .settings)) accepted) (every channelOk (take (s .settings .«num_capture_channels») (s .channels))) ok)
-
--- a list of records is as long as the list of what they hold, which is what is known of an array of them
-pub length-mapped : (A B : Type 0) (f : A → B) (l : List A) (n : ℕ) → length (map f l) ≡ n → length l ≡ n
-length-mapped A B f l n e = sym (length-map l f) ∙ e
 
 -- what the walk over the records knows at k: ok says whether each of the first k passes
 pub record Walked (s : SubbandErleEstimator) (end k : ℕ) (ok : Bool) : Type 0 where
@@ -90,52 +80,6 @@ pub walked-all :
 walked-all {s} {end} {k} {refusal} {ok} w h r =
     let last : k ≡ end = omega (arith, w .below) in
     ap (λ (n : ℕ). eqb n accepted && ok) r ∙ state-judged s k ok (last ∙ w .judged) (w .tested .told)
-
--- ---- an accepted update
-
--- as many flags, captures and residuals as n channels ask, 65 renders, and all values from 0 to 2^100
-pub record UpdateOk (n : ℕ) (converged : List Bool) (render capture residual : List Float) : Type 0 where
-  pub flags : length converged ≡ n
-  pub longRender : length render ≡ 65
-  pub longCapture : length capture ≡ n * 65
-  pub longResidual : length residual ≡ n * 65
-  pub captureOk : valuesOk capture ≡ true
-  pub residualOk : valuesOk residual ≡ true
-
-module _
-    (s : SubbandErleEstimator) (channels : ℕ) (converged : List Bool) (render capture residual : List Float)
-    (e : updateRefusal s channels converged render capture residual ≡ accepted)
-  where
-    pub update-ok : UpdateOk (s .settings .«num_capture_channels») converged render capture residual
-    unfolding updateRefusal
-    update-ok =
-        let n = s .settings .«num_capture_channels» in
-        let lengths = lengthsOk channels converged render capture residual in
-        let values = valuesInRange render capture residual in
-        let counted = later-passed (stateOk s) 19 (unless (eqb channels n) 21 (unless lengths 5 (unless values 6 0))) e in
-        let measured = later-passed (eqb channels n) 20 (unless lengths 5 (unless values 6 0)) counted in
-        let same = eqb-true channels n (passed (eqb channels n) 20 (unless lengths 5 (unless values 6 0)) counted) in
-        let long = passed lengths 4 (unless values 6 0) measured in
-        let good = passed values 5 0 (later-passed lengths 4 (unless values 6 0) measured) in
-        let (flagged, rendered, captured, left) =
-        each-of-four (eqb (length converged) channels) (eqb (length render) 65) (eqb (length capture) (channels * 65)) (eqb (length residual) (channels * 65)) long in
-        let (renderOk, captureOk, residualOk) = each-of-three (valuesOk render) (valuesOk capture) (valuesOk residual) good in
-        record {
-          flags = rw same at (eqb-true (length converged) channels flagged);
-          longRender = eqb-true (length render) 65 rendered;
-          longCapture = rw same at (eqb-true (length capture) (channels * 65) captured);
-          longResidual = rw same at (eqb-true (length residual) (channels * 65) left);
-          captureOk = captureOk;
-          residualOk = residualOk;
-        }
-
-    -- the state passes number 20
-    pub update-state-ok : stateOk s ≡ true
-    unfolding updateRefusal
-    update-state-ok =
-        let n = s .settings .«num_capture_channels» in
-        passed (stateOk s) 19
-        (unless (eqb channels n) 21 (unless (lengthsOk channels converged render capture residual) 5 (unless (valuesInRange render capture residual) 6 0))) e
 
 -- a record of a state that passes holds at most six points
 pub points-few :

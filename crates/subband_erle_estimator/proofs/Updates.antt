@@ -1,27 +1,18 @@
 -- An update channel by channel.
-use mathlib.Core.Path.{_≡_, refl, sym, ap, _∙_}
-use mathlib.Core.Bool.{Bool, true, false, cond}
+use mathlib.Core.Path.{_≡_, refl, _∙_}
+use mathlib.Core.Bool.{Bool, true, false}
 use mathlib.Core.List.{List}
 use Prim.Native.Nat.{ℕ, _+_, _≤_, _<_}
 use lib.Ieee.{Float}
-use lib.ListN.{length, getD, set}
+use lib.ListN.{getD, set}
 use Rattle.aec3_common.specs.Spectra.{part}
-use Rattle.aec3_common.proofs.Tables.{Stored, stored-none, stored-more, stored-not-yet, stored-firsts}
+use Rattle.aec3_common.proofs.Calls.{UpdateOk}
+use Rattle.aec3_common.proofs.Tables.{Stored, stored-more, stored-firsts}
 use Rattle.subband_erle_estimator.specs.declared.channel.SubbandChannel.{SubbandChannel}
 use Rattle.subband_erle_estimator.specs.declared.settings.SubbandSettings.{SubbandSettings}
 use Rattle.subband_erle_estimator.specs.declared.SubbandErleEstimator.{SubbandErleEstimator}
 use Rattle.subband_erle_estimator.specs.Channel.{quiet, coreAfter, onsetAfter, channelAfter}
-use Rattle.subband_erle_estimator.specs.Subband.{stateOk, noChannel, channelAt, blockOf, updated, updateRefusal}
-use Rattle.subband_erle_estimator.specs.Steps.{callRefusal}
-use Rattle.subband_erle_estimator.proofs.Judged.{UpdateOk}
-
--- an update's refusal, by its state's judging
-pub refusal-is :
-    (s : SubbandErleEstimator) (channels : ℕ) (converged : List Bool) (x y e : List Float) {ok : Bool} {refused : ℕ}
-    → ok ≡ stateOk s → refused ≡ callRefusal ok (s .settings .«num_capture_channels») channels converged x y e
-    → refused ≡ updateRefusal s channels converged x y e
-unfolding callRefusal updateRefusal
-refusal-is s channels converged x y e ok r = r ∙ simp ok
+use Rattle.subband_erle_estimator.specs.Subband.{stateOk, noChannel, channelAt, blockOf, updated}
 
 -- where a channel stands unconverged its powers are not looked at
 quiet-any :
@@ -49,8 +40,7 @@ module _ (s : SubbandErleEstimator) (converged : List Bool) (x y e : List Float)
 
   -- what the loop has done at ch
   pub record Updating (r : SubbandErleEstimator) (ch : ℕ) : Type 0 where
-    pub ok : UpdateOk (s .settings .«num_capture_channels») converged x y e
-    pub state : stateOk s ≡ true
+    pub ok : UpdateOk (stateOk s) (s .settings .«num_capture_channels») converged x y e
     pub settings : r .settings ≡ s .settings
     pub stored : Stored 4 noChannel 0 (s .settings .«num_capture_channels») channelOf (s .channels) (r .channels) ch
 
@@ -59,7 +49,7 @@ module _ (s : SubbandErleEstimator) (converged : List Bool) (x y e : List Float)
       → Updating r ch → ch < s .settings .«num_capture_channels» → s .settings .«num_capture_channels» ≤ 4 → v ≡ channelOf ch
       → Updating (record { settings = r .settings; channels = set (r .channels) ch v }) (ch + 1)
   updating-more r ch v u h few e =
-      record { ok = u .ok; state = u .state; settings = u .settings; stored = stored-more v (u .stored) h few e }
+      record { ok = u .ok; settings = u .settings; stored = stored-more v (u .stored) h few e }
 
   pub updating-all : (r : SubbandErleEstimator) (ch : ℕ) → Updating r ch → s .settings .«num_capture_channels» ≤ ch → r ≡ updated s converged x y e
   unfolding updated channelOf

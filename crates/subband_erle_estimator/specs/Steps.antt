@@ -4,7 +4,7 @@ use mathlib.Core.List.{List}
 use Prim.Native.Nat.{ℕ}
 use lib.Dec.{eqb}
 use lib.Ieee.{Float}
-use Rattle.aec3_common.specs.Refusal.{unless, accepted, badLength, badValue, badState, otherChannelCount}
+use Rattle.aec3_common.specs.Refusal.{accepted}
 use Rattle.aec3_common.specs.Settings.{greatestErle}
 use Rattle.aec3_common.specs.Spectra.{endsCopied}
 use Rattle.erle_bands.specs.declared.streams.Limits.{Limits}
@@ -12,7 +12,7 @@ use Rattle.erle_bands.specs.Steps.{sumsWith, lowsWith, ratiosOf, streamsBy, wai
 use Rattle.subband_erle_estimator.specs.declared.settings.SubbandSettings.{SubbandSettings}
 use Rattle.subband_erle_estimator.specs.declared.channel.SubbandChannel.{SubbandChannel}
 use Rattle.subband_erle_estimator.specs.Channel.{allPoints, pointsWith}
-use Rattle.subband_erle_estimator.specs.Subband.{settingsRefusal, lengthsOk, valuesInRange}
+use Rattle.subband_erle_estimator.specs.Subband.{settingsRefusal}
 
 abbrev pub limitsOf : SubbandSettings → Limits
 limitsOf s = record { min = s .min; «max_l» = s .«max_l»; «max_h» = s .«max_h» }
@@ -107,12 +107,3 @@ restedBy s c =
 -- the channels whose records number 20 looks at
 unfoldable pub judgedChannels : SubbandSettings → ℕ
 judgedChannels s = cond (eqb (settingsRefusal s) accepted) (s .«num_capture_channels») 0
-
--- the refusal of an update, of a state that passes or not
-unfoldable pub callRefusal : Bool → ℕ → ℕ → List Bool → List Float → List Float → List Float → ℕ
-callRefusal ok count channels converged render capture residual =
-    unless ok badState
-    (unless (eqb channels count) otherChannelCount
-    (unless (lengthsOk channels converged render capture residual) badLength
-    (unless (valuesInRange render capture residual) badValue
-    accepted)))

@@ -1,14 +1,15 @@
 -- The subband estimator: start, update and reset, and the calls that are turned away.
 use mathlib.Core.Bool.{Bool, false, cond, _&&_}
 use mathlib.Core.List.{List, []}
-use Prim.Native.Nat.{ℕ, _*_}
+use Prim.Native.Nat.{ℕ}
 use lib.Dec.{leb, ltb, eqb}
 use lib.Ieee.{Float}
-use lib.ListN.{length, getD, take}
-use Rattle.aec3_common.specs.Binary32.{zero32, valuesOk, sumsOk}
+use lib.ListN.{getD, take}
+use Rattle.aec3_common.specs.Binary32.{zero32, sumsOk}
+use Rattle.aec3_common.specs.Calls.{callRefusal}
 use Rattle.aec3_common.specs.Lists.{tab, every}
-use Rattle.aec3_common.specs.Refusal.{unless, accepted, badLimits, badChannelCount, badLength, badValue, badState, otherChannelCount}
-use Rattle.aec3_common.specs.Settings.{maxCaptureChannels, limitsOk, captureChannelsOk}
+use Rattle.aec3_common.specs.Refusal.{unless, accepted, badState}
+use Rattle.aec3_common.specs.Settings.{maxCaptureChannels, limitsAndChannelsRefusal}
 use Rattle.aec3_common.specs.Spectra.{part}
 use Rattle.subband_erle_estimator.specs.declared.settings.SubbandSettings.{SubbandSettings}
 use Rattle.subband_erle_estimator.specs.declared.channel.SubbandChannel.{SubbandChannel}
@@ -20,10 +21,7 @@ use Rattle.subband_erle_estimator.specs.Channel.{Block, allPoints, fresh
 
 -- the first of 1 and 2 that the settings break, or 0
 unfoldable pub settingsRefusal : SubbandSettings → ℕ
-settingsRefusal s =
-    unless (limitsOk (s .min) (s .«max_l») (s .«max_h»)) badLimits
-    (unless (captureChannelsOk (s .«num_capture_channels»)) badChannelCount
-    accepted)
+settingsRefusal s = limitsAndChannelsRefusal (s .min) (s .«max_l») (s .«max_h») (s .«num_capture_channels»)
 
 -- a point count of 0 to 6, and held sums within 0 to 2^110
 unfoldable pub channelOk : SubbandChannel → Bool
@@ -35,26 +33,10 @@ stateOk s =
     eqb (settingsRefusal (s .settings)) accepted
     && every channelOk (take (s .settings .«num_capture_channels») (s .channels))
 
--- one flag and 65 captures and residuals for each channel, 65 renders
-abbrev pub lengthsOk : ℕ → List Bool → List Float → List Float → List Float → Bool
-lengthsOk channels converged render capture residual =
-    eqb (length converged) channels
-    && eqb (length render) 65
-    && eqb (length capture) (channels * 65)
-    && eqb (length residual) (channels * 65)
-
--- number 6, of all that is lent
-abbrev pub valuesInRange : List Float → List Float → List Float → Bool
-valuesInRange render capture residual = valuesOk render && valuesOk capture && valuesOk residual
-
 -- the first of 20, 21, 5 and 6, or 0
 unfoldable pub updateRefusal : SubbandErleEstimator → ℕ → List Bool → List Float → List Float → List Float → ℕ
 updateRefusal s channels converged render capture residual =
-    unless (stateOk s) badState
-    (unless (eqb channels (s .settings .«num_capture_channels»)) otherChannelCount
-    (unless (lengthsOk channels converged render capture residual) badLength
-    (unless (valuesInRange render capture residual) badValue
-    accepted)))
+    callRefusal (stateOk s) (s .settings .«num_capture_channels») channels converged render capture residual
 
 -- a reset is turned away under 20 alone
 unfoldable pub resetRefusal : SubbandErleEstimator → ℕ

@@ -1,13 +1,12 @@
 // Subband ERLE: the plain, the onset-compensated and the uncapped ERLE of each band and channel.
 mod channel;
-mod judge;
 mod settings;
 
+use aec3_common::judge::call_refusal;
 use aec3_common::refusal::ACCEPTED;
 use aec3_common::refusal::BAD_STATE;
 use aec3_common::spectra::part;
 pub use channel::SubbandChannel;
-use judge::call_refusal;
 pub use settings::SubbandSettings;
 use settings::refused_settings;
 ghost use mathlib.Core.Path.{_≡_};

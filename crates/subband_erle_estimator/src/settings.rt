@@ -1,10 +1,7 @@
 // The settings of the estimator, and what turns them away.
 use aec3_common::refusal::ACCEPTED;
-use aec3_common::refusal::BAD_CHANNEL_COUNT;
-use aec3_common::refusal::BAD_LIMITS;
 use aec3_common::settings::GREATEST_ERLE;
-use aec3_common::settings::capture_channels_ok;
-use aec3_common::settings::limits_ok;
+use aec3_common::settings::limits_and_channels_refusal;
 use erle_bands::streams::Limits;
 ghost use mathlib.Core.Path.{_≡_};
 ghost use Rattle.subband_erle_estimator.specs.Subband.{settingsRefusal, refusedSettings};
@@ -36,13 +33,7 @@ impl SubbandSettings {
     pub fn refusal(self) -> u32
         ensures { λ r. ⌜ r ≡ settingsRefusal self ⌝ }
     {
-        if !limits_ok(self.min, self.max_l, self.max_h) {
-            BAD_LIMITS
-        } else if !capture_channels_ok(self.num_capture_channels) {
-            BAD_CHANNEL_COUNT
-        } else {
-            ACCEPTED
-        }
+        limits_and_channels_refusal(self.min, self.max_l, self.max_h, self.num_capture_channels)
     }
 
     // How many channels' records number 20 looks at: none where the settings fail already.

@@ -3,11 +3,12 @@ use mathlib.Core.Path.{_≡_, _∙_, ap}
 use mathlib.Core.List.{List}
 use lib.Ieee.{Float}
 use lib.IntN.{ℤ}
+use Rattle.aec3_common.specs.Binary32.{sumThreshold}
 use Rattle.aec3_common.specs.Lists.{tab}
 use Rattle.aec3_common.specs.Spectra.{shownBand, endsCopied, sum}
 use Rattle.aec3_common.proofs.Holds.{read-back}
 use Rattle.erl_estimator.specs.declared.figure.Figure.{Figure}
-use Rattle.erl_estimator.specs.Erl.{timeDomainThreshold, afterBlock, bandAfter, learntFrom}
+use Rattle.erl_estimator.specs.Erl.{afterBlock, bandAfter, learntFrom}
 use Rattle.erl_estimator.specs.Steps.{newErls, erlsBy, holdsBy}
 use Rattle.erl_estimator.proofs.Steps.{holds-after, erls-after}
 use Rattle.erl_estimator.proofs.ErlEstimator.learnt_from.Statement.{statement}
@@ -18,11 +19,11 @@ time :
     (c : tie.After-time-domain-after)
     → let a = c .before .before .before .before .args in
     c .time-domain-after .result
-    ≡ afterBlock timeDomainThreshold (sum (a .render .now)) (sum (a .capture .now)) (record { erl = a .t1 .«erl_time_domain»; hold = a .t1 .«hold_counter_time_domain» })
+    ≡ afterBlock sumThreshold (sum (a .render .now)) (sum (a .capture .now)) (record { erl = a .t1 .«erl_time_domain»; hold = a .t1 .«hold_counter_time_domain» })
 time c =
     let a = c .before .before .before .before .args in
     c .time-domain-after .ensures
-    ∙ ap (λ (h : ℤ). afterBlock timeDomainThreshold (sum (a .render .now)) (sum (a .capture .now)) (record { erl = a .t1 .«erl_time_domain»; hold = h }))
+    ∙ ap (λ (h : ℤ). afterBlock sumThreshold (sum (a .render .now)) (sum (a .capture .now)) (record { erl = a .t1 .«erl_time_domain»; hold = h }))
     (read-back (a .t1 .«hold_counter_time_domain») (c .before .before .before .struct-told .given .1 .1 .1 .0 .1))
 
 -- the holds, by the ratios of all bands

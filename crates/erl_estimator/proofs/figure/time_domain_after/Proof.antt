@@ -3,8 +3,9 @@ use mathlib.Core.Path.{_≡_, _∙_, sym, ap}
 use mathlib.Core.Bool.{false}
 use denote.Ref.{now}
 use lib.Ieee.{lt}
+use Rattle.aec3_common.specs.Binary32.{sumThreshold}
 use Rattle.aec3_common.specs.Spectra.{sum}
-use Rattle.erl_estimator.specs.Erl.{timeDomainThreshold, afterBlock, learnt}
+use Rattle.erl_estimator.specs.Erl.{afterBlock, learnt}
 use Rattle.erl_estimator.proofs.figure.time_domain_after.Statement.{statement}
 use Rattle.erl_estimator.proofs.figure.time_domain_after.Tie as tie
 
@@ -14,7 +15,7 @@ returns c = c .after-block .ensures ∙ simp (c .before .sum2 .ensures, c .befor
 returns-2 : tie.Need-returns-2
 unfolding afterBlock learnt
 returns-2 c =
-    let below : lt timeDomainThreshold (sum (now (c .before .before .before .before .before .args .render))) ≡ false =
+    let below : lt sumThreshold (sum (now (c .before .before .before .before .before .args .render))) ≡ false =
     rw (← c .before .before .sum .ensures) (c .before .if1 .left) in
     simp below (c .rested .ensures)
 

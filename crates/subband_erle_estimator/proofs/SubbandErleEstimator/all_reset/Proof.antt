@@ -4,10 +4,9 @@ use mathlib.Core.Path.{_≡_, refl}
 use Prim.Native.Nat.{_-_}
 use native.Mathlib.Omega.{arith}
 use lib.ListN.{length}
-use Rattle.aec3_common.proofs.Tables.{Stored, stored-none, stored-more, stored-all}
+use Rattle.aec3_common.proofs.Tables.{length-mapped, Stored, stored-none, stored-more, stored-all}
 use Rattle.subband_erle_estimator.specs.Channel.{fresh}
 use Rattle.subband_erle_estimator.specs.Subband.{started, noChannel}
-use Rattle.subband_erle_estimator.proofs.Judged.{length-mapped}
 use Rattle.subband_erle_estimator.proofs.SubbandErleEstimator.all_reset.Statement.{statement}
 use Rattle.subband_erle_estimator.proofs.SubbandErleEstimator.all_reset.Tie as tie
 

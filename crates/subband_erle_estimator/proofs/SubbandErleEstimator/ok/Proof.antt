@@ -3,7 +3,8 @@ use borrow.Author.Needs.{needs}
 use mathlib.Core.Path.{_≡_}
 use Prim.Native.Nat.{_-_}
 use lib.ListN.{length}
-use Rattle.subband_erle_estimator.proofs.Judged.{length-mapped, Walked, walked-none, walked-more, walked-all}
+use Rattle.aec3_common.proofs.Tables.{length-mapped}
+use Rattle.subband_erle_estimator.proofs.Judged.{Walked, walked-none, walked-more, walked-all}
 use Rattle.subband_erle_estimator.proofs.SubbandErleEstimator.ok.Statement.{statement}
 use Rattle.subband_erle_estimator.proofs.SubbandErleEstimator.ok.Tie as tie
 

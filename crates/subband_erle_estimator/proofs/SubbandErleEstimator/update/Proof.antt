@@ -11,9 +11,10 @@ use lib.ListN.{length}
 use Rattle.subband_erle_estimator.specs.declared.SubbandErleEstimator.{SubbandErleEstimator}
 use Rattle.subband_erle_estimator.specs.Subband.{stateOk, updateRefusal, updateAnswer}
 use Rattle.aec3_common.proofs.Bands.{part-length}
-use Rattle.aec3_common.proofs.Tables.{stored-none, stored-not-yet}
-use Rattle.subband_erle_estimator.proofs.Judged.{length-mapped, Walked, walked-none, walked-more, walked-all, state-few, update-ok, update-state-ok, points-few}
-use Rattle.subband_erle_estimator.proofs.Updates.{refusal-is, converged-channel, quiet-channel, Updating, updating-more, updating-all}
+use Rattle.aec3_common.proofs.Calls.{update-ok}
+use Rattle.aec3_common.proofs.Tables.{length-mapped, stored-none, stored-not-yet}
+use Rattle.subband_erle_estimator.proofs.Judged.{Walked, walked-none, walked-more, walked-all, state-few, points-few}
+use Rattle.subband_erle_estimator.proofs.Updates.{converged-channel, quiet-channel, Updating, updating-more, updating-all}
 use Rattle.subband_erle_estimator.proofs.SubbandErleEstimator.update.Statement.{statement}
 use Rattle.subband_erle_estimator.proofs.SubbandErleEstimator.update.Tie as tie
 
@@ -55,26 +56,26 @@ refused-by :
     (c : tie.After-call-refusal Inv-loop μ-loop Inv-loop2 μ-loop2)
     → let a = c .before .before .before .before .before .before .before .before .before .before .args in
     c .call-refusal .result ≡ updateRefusal (a .t1) (a .num-capture-channels) (a .converged-filters .now) (a .x2 .now) (a .y2 .now) (a .e2 .now)
-refused-by c =
-    let a = c .before .before .before .before .before .before .before .before .before .before .args in
-    refusal-is (a .t1) (a .num-capture-channels) (a .converged-filters .now) (a .x2 .now) (a .y2 .now) (a .e2 .now)
-    (judged (c .before)) (c .call-refusal .ensures)
+unfolding updateRefusal
+refused-by c = c .call-refusal .ensures ∙ rw (judged (c .before))
 
 returns-2 : tie.Need-returns-2 Inv-loop μ-loop Inv-loop2 μ-loop2
 unfolding updateAnswer
 returns-2 c = simp (sym (refused-by (c .before)), ne-eqb _ _ (c .if1 .left))
 
 loop2-holds : tie.Need-loop2-holds Inv-loop μ-loop Inv-loop2 μ-loop2
+unfolding updateRefusal
 loop2-holds c =
     let a = c .before .before .before .before .before .before .before .before .before .before .before .args in
-    let none = sym (refused-by (c .before)) ∙ c .if1 .taken in
-    let state = update-state-ok (a .t1) (a .num-capture-channels) (a .converged-filters .now) (a .x2 .now) (a .y2 .now) (a .e2 .now) none in
-    let few = state-few (a .t1) state in (
+    let s = a .t1 in
+    let ok =
+    update-ok (stateOk s) (s .settings .«num_capture_channels») (a .num-capture-channels) (a .converged-filters .now) (a .x2 .now) (a .y2 .now) (a .e2 .now)
+    (sym (refused-by (c .before)) ∙ c .if1 .taken) in
+    let few = state-few s (ok .state) in (
       omega arith,
       few,
       record {
-        ok = update-ok (a .t1) (a .num-capture-channels) (a .converged-filters .now) (a .x2 .now) (a .y2 .now) (a .e2 .now) none;
-        state = state;
+        ok = ok;
         settings = refl;
         stored = stored-none _ _ _ _ _ (omega arith) (four (c .before .before .before .before .before .before .before .before .before .before .before));
       },
@@ -96,7 +97,7 @@ update-requires c κs =
     let at = c .before .before .before .before .before .before .loop2 in
     let u = at .inv .2 in
     let h = c .before .before .before .before .before .loop2-test .taken in (
-      rw (stored-not-yet (u .stored)) (points-few (a .t1) (at .ch) (u .state) (four start) h),
+      rw (stored-not-yet (u .stored)) (points-few (a .t1) (at .ch) (u .ok .state) (four start) h),
       (
         u .ok .longRender,
         ap length (c .before .part .ensures) ∙ part-length (a .y2 .now) (at .ch) (omega (arith, u .ok .longCapture)),

@@ -1,5 +1,5 @@
 use borrow.Author.Needs.{needs}
-use borrow.Author.Tests.{not-true, not-false}
+use borrow.Author.Tests.{eq-eqb, ne-eqb}
 use mathlib.Core.Path.{_∙_, sym}
 use Rattle.aec3_common.specs.Settings.{settingsRefusal}
 use Rattle.aec3_common.proofs.settings.ErleSettings.refusal.Statement.{statement}
@@ -7,42 +7,23 @@ use Rattle.aec3_common.proofs.settings.ErleSettings.refusal.Tie as tie
 
 returns : tie.Need-returns
 unfolding settingsRefusal
-returns c = simp (sym (c .before .limits-ok .ensures) ∙ not-true _ (c .if1 .taken))
+returns c = simp (sym (c .before .limits-and-channels-refusal .ensures), ne-eqb _ _ (c .if1 .taken))
 
 returns-2 : tie.Need-returns-2
 unfolding settingsRefusal
 returns-2 c =
     simp (
-      sym (c .before .before .before .limits-ok .ensures) ∙ not-false _ (c .before .before .if1 .left),
-      sym (c .before .capture-channels-ok .ensures) ∙ not-true _ (c .if2 .taken),
+      eq-eqb _ _ (sym (c .before .before .before .limits-and-channels-refusal .ensures) ∙ c .before .before .if1 .left),
+      sym (c .before .sections-ok .ensures) ∙ c .if2 .taken,
     )
 
 returns-3 : tie.Need-returns-3
 unfolding settingsRefusal
 returns-3 c =
     simp (
-      sym (c .before .before .before .before .before .limits-ok .ensures) ∙ not-false _ (c .before .before .before .before .if1 .left),
-      sym (c .before .before .before .capture-channels-ok .ensures) ∙ not-false _ (c .before .before .if2 .left),
-      sym (c .before .sections-ok .ensures) ∙ not-true _ (c .if3 .taken),
-    )
-
-returns-4 : tie.Need-returns-4
-unfolding settingsRefusal
-returns-4 c =
-    simp (
-      sym (c .before .before .before .before .before .limits-ok .ensures) ∙ not-false _ (c .before .before .before .before .if1 .left),
-      sym (c .before .before .before .capture-channels-ok .ensures) ∙ not-false _ (c .before .before .if2 .left),
-      sym (c .before .sections-ok .ensures) ∙ not-false _ (c .if3 .left),
+      eq-eqb _ _ (sym (c .before .before .before .limits-and-channels-refusal .ensures) ∙ c .before .before .if1 .left),
+      sym (c .before .sections-ok .ensures) ∙ c .if2 .left,
     )
 
 pub refusal-spec : {M : Type 1} → statement M
-refusal-spec =
-    tie.close
-    (tie.spec
-    (λ c κs. search needs)
-    (λ c κs. search needs)
-    (λ c κs. search needs)
-    returns
-    returns-2
-    returns-3
-    returns-4)
+refusal-spec = tie.close (tie.spec (λ c κs. search needs) (λ c κs. search needs) returns returns-2 returns-3)

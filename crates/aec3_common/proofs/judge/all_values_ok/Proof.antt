@@ -1,6 +1,6 @@
 use borrow.Author.Needs.{needs}
-use Rattle.subband_erle_estimator.proofs.judge.all_values_ok.Statement.{statement}
-use Rattle.subband_erle_estimator.proofs.judge.all_values_ok.Tie as tie
+use Rattle.aec3_common.proofs.judge.all_values_ok.Statement.{statement}
+use Rattle.aec3_common.proofs.judge.all_values_ok.Tie as tie
 
 returns : tie.Need-returns
 returns c = cc

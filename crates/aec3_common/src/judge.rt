@@ -1,15 +1,14 @@
-// Which calls of update are turned away.
-use aec3_common::refusal::ACCEPTED;
-use aec3_common::refusal::BAD_LENGTH;
-use aec3_common::refusal::BAD_STATE;
-use aec3_common::refusal::BAD_VALUE;
-use aec3_common::refusal::OTHER_CHANNEL_COUNT;
-use aec3_common::values_ok;
+// Which updates of an ERLE estimator are turned away.
+use crate::binary32::values_ok;
+use crate::refusal::ACCEPTED;
+use crate::refusal::BAD_LENGTH;
+use crate::refusal::BAD_STATE;
+use crate::refusal::BAD_VALUE;
+use crate::refusal::OTHER_CHANNEL_COUNT;
 ghost use mathlib.Core.Path.{_≡_};
 ghost use mathlib.Core.Bool.{true};
 ghost use Prim.Native.Nat.{_≤_};
-ghost use Rattle.subband_erle_estimator.specs.Subband.{lengthsOk, valuesInRange};
-ghost use Rattle.subband_erle_estimator.specs.Steps.{callRefusal};
+ghost use Rattle.aec3_common.specs.Calls.{lengthsOk, valuesInRange, callRefusal};
 
 fn lengths_ok(channels: usize, converged: &[bool], x2: &[f32], y2: &[f32], e2: &[f32]) -> bool
     requires { ⌜ channels ≤ 4 ⌝ }
@@ -27,7 +26,7 @@ fn all_values_ok(x2: &[f32], y2: &[f32], e2: &[f32]) -> bool
     values_ok(x2) & values_ok(y2) & values_ok(e2)
 }
 
-// The first of 20, 21, 5 and 6, or 0, for a state that number 20 lets pass or not.
+// The first of 20, 21, 5 and 6, or 0, for a caller that has judged its state; one that passes has at most four channels.
 pub fn call_refusal(
     state_ok: bool,
     count: usize,

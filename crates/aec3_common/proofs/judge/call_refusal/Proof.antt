@@ -1,10 +1,10 @@
 use borrow.Author.Needs.{needs}
 use borrow.Author.Tests.{eq-eqb, ne-eqb}
 use native.Mathlib.Omega.{arith}
-use mathlib.Core.Path.{_≡_, _∙_, sym}
-use Rattle.subband_erle_estimator.specs.Steps.{callRefusal}
-use Rattle.subband_erle_estimator.proofs.judge.call_refusal.Statement.{statement}
-use Rattle.subband_erle_estimator.proofs.judge.call_refusal.Tie as tie
+use mathlib.Core.Path.{_∙_, sym}
+use Rattle.aec3_common.specs.Calls.{callRefusal}
+use Rattle.aec3_common.proofs.judge.call_refusal.Statement.{statement}
+use Rattle.aec3_common.proofs.judge.call_refusal.Tie as tie
 
 lengths-ok-requires : tie.Need-lengths-ok-requires
 lengths-ok-requires c κs =

@@ -1,0 +1,69 @@
+-- What the judging of settings and of an update tells.
+use mathlib.Core.Path.{_≡_}
+use mathlib.Core.Bool.{Bool, true}
+use mathlib.Core.List.{List}
+use Prim.Native.Nat.{ℕ, _*_, _≤_}
+use borrow.Author.Tests.{eqb-true}
+use lib.Dec.{eqb}
+use lib.Ieee.{Float}
+use lib.ListN.{length}
+use Rattle.aec3_common.specs.Binary32.{valuesOk}
+use Rattle.aec3_common.specs.Refusal.{unless, accepted, badChannelCount}
+use Rattle.aec3_common.specs.Settings.{maxCaptureChannels, limitsOk, captureChannelsOk, limitsAndChannelsRefusal}
+use Rattle.aec3_common.specs.Calls.{lengthsOk, valuesInRange, callRefusal}
+use Rattle.aec3_common.proofs.Choices.{passed, later-passed, each-of-three, each-of-four}
+use Rattle.aec3_common.proofs.Ranges.{from-lo, to-hi}
+
+module _ (min maxL maxH : Float) (n : ℕ) (e : limitsAndChannelsRefusal min maxL maxH n ≡ accepted) where
+  pub limits-passed : limitsOk min maxL maxH ≡ true
+  unfolding limitsAndChannelsRefusal
+  limits-passed = passed (limitsOk min maxL maxH) 0 (unless (captureChannelsOk n) badChannelCount accepted) e
+
+  pub channels-passed : captureChannelsOk n ≡ true
+  unfolding limitsAndChannelsRefusal
+  channels-passed =
+      passed (captureChannelsOk n) 1 accepted
+      (later-passed (limitsOk min maxL maxH) 0 (unless (captureChannelsOk n) badChannelCount accepted) e)
+
+  -- settings that pass have one to four channels
+  pub some-channels : 1 ≤ n
+  some-channels = from-lo 1 maxCaptureChannels n channels-passed
+
+  pub few-channels : n ≤ 4
+  few-channels = to-hi 1 maxCaptureChannels n channels-passed
+
+-- an accepted update: a state that passes, as many flags, captures and residuals as its n channels ask, 65 renders, and all
+-- values from 0 to 2^100
+pub record UpdateOk (ok : Bool) (n : ℕ) (converged : List Bool) (render capture residual : List Float) : Type 0 where
+  pub state : ok ≡ true
+  pub flags : length converged ≡ n
+  pub longRender : length render ≡ 65
+  pub longCapture : length capture ≡ n * 65
+  pub longResidual : length residual ≡ n * 65
+  pub captureOk : valuesOk capture ≡ true
+  pub residualOk : valuesOk residual ≡ true
+
+pub update-ok :
+    (ok : Bool) (n channels : ℕ) (converged : List Bool) (render capture residual : List Float)
+    → callRefusal ok n channels converged render capture residual ≡ accepted → UpdateOk ok n converged render capture residual
+unfolding callRefusal
+update-ok ok n channels converged render capture residual e =
+    let lengths = lengthsOk channels converged render capture residual in
+    let values = valuesInRange render capture residual in
+    let counted = later-passed ok 19 (unless (eqb channels n) 21 (unless lengths 5 (unless values 6 0))) e in
+    let measured = later-passed (eqb channels n) 20 (unless lengths 5 (unless values 6 0)) counted in
+    let same = eqb-true channels n (passed (eqb channels n) 20 (unless lengths 5 (unless values 6 0)) counted) in
+    let long = passed lengths 4 (unless values 6 0) measured in
+    let good = passed values 5 0 (later-passed lengths 4 (unless values 6 0) measured) in
+    let (flagged, rendered, captured, left) =
+    each-of-four (eqb (length converged) channels) (eqb (length render) 65) (eqb (length capture) (channels * 65)) (eqb (length residual) (channels * 65)) long in
+    let (renderOk, captureOk, residualOk) = each-of-three (valuesOk render) (valuesOk capture) (valuesOk residual) good in
+    record {
+      state = passed ok 19 (unless (eqb channels n) 21 (unless lengths 5 (unless values 6 0))) e;
+      flags = rw same at (eqb-true (length converged) channels flagged);
+      longRender = eqb-true (length render) 65 rendered;
+      longCapture = rw same at (eqb-true (length capture) (channels * 65) captured);
+      longResidual = rw same at (eqb-true (length residual) (channels * 65) left);
+      captureOk = captureOk;
+      residualOk = residualOk;
+    }

@@ -1,0 +1,22 @@
+use borrow.Author.Needs.{needs}
+use mathlib.Core.Path.{_∙_, sym}
+use Rattle.fullband_erle_estimator.specs.FullBand.{stateRefusal, resetAnswer}
+use Rattle.fullband_erle_estimator.proofs.Judged.{min-above, settings-passed}
+use Rattle.fullband_erle_estimator.proofs.FullBandErleEstimator.reset.Statement.{statement}
+use Rattle.fullband_erle_estimator.proofs.FullBandErleEstimator.reset.Tie as tie
+
+started-requires : tie.Need-started-requires
+started-requires c κs =
+    let s = c .before .before .args .self in
+    min-above (s .settings) (settings-passed s (sym (c .before .ok .ensures) ∙ c .if1 .taken))
+
+returns : tie.Need-returns
+unfolding resetAnswer stateRefusal
+returns c = simp (sym (c .before .before .ok .ensures) ∙ c .before .if1 .taken, c .started .ensures)
+
+returns-2 : tie.Need-returns-2
+unfolding resetAnswer stateRefusal
+returns-2 c = simp (sym (c .before .ok .ensures) ∙ c .if1 .left)
+
+pub reset-spec : {M : Type 1} → statement M
+reset-spec = tie.close (tie.spec (λ c κs. search needs) started-requires returns returns-2)

@@ -1,0 +1,4 @@
+pub mod Points
+pub mod Judged
+pub mod Least
+pub mod Updates

@@ -1,0 +1,53 @@
+-- An update channel by channel.
+use mathlib.Core.Path.{_≡_, refl, sym, ap, _∙_}
+use mathlib.Core.Bool.{Bool, true, false, cond, _&&_}
+use mathlib.Core.List.{List}
+use Prim.Native.Nat.{ℕ, _+_, _≤_, _<_}
+use lib.Ieee.{Float, lt}
+use lib.ListN.{length, getD, set}
+use Rattle.aec3_common.specs.Binary32.{sumThreshold}
+use Rattle.aec3_common.specs.Spectra.{part, sum}
+use Rattle.aec3_common.proofs.Calls.{UpdateOk}
+use Rattle.aec3_common.proofs.Choices.{and-comm}
+use Rattle.aec3_common.proofs.Tables.{Stored, stored-more, stored-firsts}
+use Rattle.fullband_erle_estimator.specs.declared.channel.FullBandChannel.{FullBandChannel}
+use Rattle.fullband_erle_estimator.specs.declared.FullBandErleEstimator.{FullBandErleEstimator}
+use Rattle.fullband_erle_estimator.specs.Channel.{withPoint, oneBlockLess, channelAfter}
+use Rattle.fullband_erle_estimator.specs.FullBand.{stateOk, minLog2, noChannel, channelAt, updated}
+
+module _ (s : FullBandErleEstimator) (converged : List Bool) (x y e : List Float) where
+  -- a channel after the update
+  pub channelOf : ℕ → FullBandChannel
+  channelOf ch = channelAfter (minLog2 (s .settings)) (getD converged ch false) x (part y ch) (part e ch) (channelAt s ch)
+
+  -- whether it accumulates, the render looked at first as the code does
+  abbrev pub heard : ℕ → Bool
+  heard ch = lt sumThreshold (sum x) && getD converged ch false
+
+  pub heard-channel :
+      (ch : ℕ) (c : FullBandChannel) → heard ch ≡ true → c ≡ channelAt s ch
+      → oneBlockLess (withPoint (minLog2 (s .settings)) (sum (part y ch)) (sum (part e ch)) c) ≡ channelOf ch
+  unfolding channelOf channelAfter
+  heard-channel ch c on same = rw (same, and-comm (getD converged ch false) (lt sumThreshold (sum x)), on)
+
+  pub quiet-channel : (ch : ℕ) (c : FullBandChannel) → heard ch ≡ false → c ≡ channelAt s ch → oneBlockLess c ≡ channelOf ch
+  unfolding channelOf channelAfter
+  quiet-channel ch c off same = rw (same, and-comm (getD converged ch false) (lt sumThreshold (sum x)), off)
+
+  -- what the loop has done at ch
+  pub record Updating (r : FullBandErleEstimator) (ch : ℕ) : Type 0 where
+    pub ok : UpdateOk (stateOk s) (s .settings .«num_capture_channels») converged x y e
+    pub settings : r .settings ≡ s .settings
+    pub stored : Stored 4 noChannel 0 (s .settings .«num_capture_channels») channelOf (s .channels) (r .channels) ch
+
+  pub updating-more :
+      (r : FullBandErleEstimator) (ch : ℕ) (v : FullBandChannel)
+      → Updating r ch → ch < s .settings .«num_capture_channels» → s .settings .«num_capture_channels» ≤ 4 → v ≡ channelOf ch
+      → Updating (record { settings = r .settings; channels = set (r .channels) ch v }) (ch + 1)
+  updating-more r ch v u h few e =
+      record { ok = u .ok; settings = u .settings; stored = stored-more v (u .stored) h few e }
+
+  pub updating-all :
+      (r : FullBandErleEstimator) (ch : ℕ) → Updating r ch → s .settings .«num_capture_channels» ≤ ch → r ≡ updated s converged x y e
+  unfolding updated channelOf
+  updating-all r ch u h = λ i. record { settings = u .settings i; channels = stored-firsts (u .stored) h i }
