@@ -1,7 +1,9 @@
 //! Measures the published Rust and the port on the same blocks in one run. Each
 //! estimator has a module of its own.
 
+mod blocks;
 mod erl;
+mod fullband;
 mod subband;
 
 use crate::judge::BANDS;
@@ -17,7 +19,8 @@ const ROUNDS: usize = 200;
 
 pub fn speed() -> Result<(), String> {
     erl::speed()?;
-    subband::speed()
+    subband::speed()?;
+    fullband::speed()
 }
 
 /// So many spectra of powers from 2^least up, within so many octaves.

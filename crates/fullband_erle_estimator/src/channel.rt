@@ -7,13 +7,12 @@ use aec3_common::binary32::is_within;
 use aec3_common::counts::fallen;
 use aec3_common::larger;
 use aec3_common::moved;
-use aec3_common::spectra::sum;
 ghost use mathlib.Core.Path.{_≡_};
 ghost use mathlib.Core.Bool.{true};
 ghost use Prim.Native.Nat.{_≤_};
 ghost use lib.ListN.{length};
 ghost use Rattle.aec3_common.specs.Binary32.{valuesOk};
-ghost use Rattle.aec3_common.specs.Spectra.{sum as Spectra·sum};
+ghost use Rattle.aec3_common.specs.Spectra.{sum};
 ghost use Rattle.fullband_erle_estimator.specs.Channel.{freshChannel, withPoint, oneBlockLess};
 ghost use Rattle.fullband_erle_estimator.specs.FullBand.{channelOk};
 ghost use Rattle.fullband_erle_estimator.specs.Steps.{PositiveRatio};
@@ -24,6 +23,29 @@ pub struct FullBandChannel {
     pub instantaneous_erle: ErleInstantaneous,
     pub erle_time_domain_log2: f32,
     pub hold_counter_time_domain: i32,
+}
+
+struct PowerSums {
+    y2: f32,
+    e2: f32,
+}
+
+// The capture and the residual power of a block, each added up over all bands in order, beginning at plus zero. One loop for
+// both: the sums do not wait for each other.
+fn power_sums(y2: &[f32], e2: &[f32]) -> PowerSums
+    requires { ⌜ (length (now y2) ≡ 65) × (length (now e2) ≡ 65) ⌝ }
+    ensures { λ r. ⌜ r ≡ (record { y2 = sum (now (y2 .entry)); e2 = sum (now (e2 .entry)) }) ⌝ }
+{
+    let mut y2_sum = 0.0;
+    let mut e2_sum = 0.0;
+    for k in 0..65 {
+        y2_sum = y2_sum + y2[k];
+        e2_sum = e2_sum + e2[k];
+    }
+    PowerSums {
+        y2: y2_sum,
+        e2: e2_sum,
+    }
 }
 
 impl FullBandChannel {
@@ -75,28 +97,24 @@ impl FullBandChannel {
 
     // One update of a channel that accumulates.
     pub fn update(self, min_erle_log2: f32, y2: &[f32], e2: &[f32]) -> FullBandChannel
-        requires { ⌜ (channelOk self ≡ true) × (length (now y2) ≤ 65) × (valuesOk (now y2) ≡ true) ⌝ }
-        ensures { λ r. ⌜ r ≡ oneBlockLess (withPoint «min_erle_log2» (Spectra·sum (now (y2 .entry))) (Spectra·sum (now (e2 .entry))) self) ⌝ }
+        requires { ⌜ (channelOk self ≡ true) × (length (now y2) ≡ 65) × (length (now e2) ≡ 65) × (valuesOk (now y2) ≡ true) ⌝ }
+        ensures { λ r. ⌜ r ≡ oneBlockLess (withPoint «min_erle_log2» (sum (now (y2 .entry))) (sum (now (e2 .entry))) self) ⌝ }
     {
-        let channel = self.with_point(min_erle_log2, sum(y2), sum(e2));
+        let sums = power_sums(y2, e2);
+        let channel = self.with_point(min_erle_log2, sums.y2, sums.e2);
         channel.decay()
     }
 
     // One block less to hold. In an update of a channel that does not accumulate this is all.
-    pub fn decay(self) -> FullBandChannel
+    pub fn decay(mut self) -> FullBandChannel
         ensures { λ r. ⌜ r ≡ oneBlockLess self ⌝ }
     {
         let hold = fallen(self.hold_counter_time_domain);
-        let inst = self.instantaneous_erle;
-        let instantaneous_erle = if hold == 0 {
-            inst.reset_accumulators()
-        } else {
-            inst
-        };
-        FullBandChannel {
-            instantaneous_erle,
-            erle_time_domain_log2: self.erle_time_domain_log2,
-            hold_counter_time_domain: hold,
+        self.hold_counter_time_domain = hold;
+        if hold == 0 {
+            let inst = self.instantaneous_erle;
+            self.instantaneous_erle = inst.reset_accumulators();
         }
+        self
     }
 }

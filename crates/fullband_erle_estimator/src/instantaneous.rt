@@ -10,7 +10,7 @@ ghost use Rattle.fullband_erle_estimator.specs.Steps.{PositiveRatio};
 
 pub const EPSILON: f32 = 0.001;
 
-pub const POINTS_TO_ACCUMULATE: usize = 6;
+pub const POINTS_TO_ACCUMULATE: u32 = 6;
 
 // A number that may not be there.
 pub enum OptionalNumber {
@@ -25,7 +25,7 @@ pub struct ErleInstantaneous {
     pub min_erle_log2: f32,
     pub y2_accum: f32,
     pub e2_accum: f32,
-    pub num_points: usize,
+    pub num_points: u32,
 }
 
 fn greatest_with(value: f32, greatest: f32) -> f32
@@ -148,7 +148,7 @@ impl ErleInstantaneous {
     }
 
     // The same with other sums and points.
-    fn holding(mut self, y2: f32, e2: f32, points: usize) -> ErleInstantaneous
+    fn holding(mut self, y2: f32, e2: f32, points: u32) -> ErleInstantaneous
         ensures { λ r. ⌜ r ≡ (record { «erle_log2» = self .«erle_log2»; «inst_quality_estimate» = self .«inst_quality_estimate»; «max_erle_log2» = self .«max_erle_log2»; «min_erle_log2» = self .«min_erle_log2»; «y2_accum» = y2; «e2_accum» = e2; «num_points» = points }) ⌝ }
     {
         self.y2_accum = y2;

@@ -16,7 +16,7 @@ pub use instantaneous::OptionalNumber;
 pub use settings::FullBandSettings;
 use settings::refused_settings;
 ghost use mathlib.Core.Path.{_≡_};
-ghost use mathlib.Core.Bool.{true};
+ghost use mathlib.Core.Bool.{true, not};
 ghost use Prim.Native.Nat.{_≤_};
 ghost use lib.Ieee.{binary32, add, lt};
 ghost use lib.ListN.{take};
@@ -24,6 +24,7 @@ ghost use Rattle.aec3_common.specs.Binary32.{zero32};
 ghost use Rattle.aec3_common.specs.Lists.{every};
 ghost use Rattle.fullband_erle_estimator.specs.Instantaneous.{epsilon};
 ghost use Rattle.fullband_erle_estimator.specs.FullBand.{channelOk, stateOk, started as FullBand·started, startAnswer, resetAnswer, updateAnswer, fullbandLog2, decibels as FullBand·decibels, log2Answer, decibelAnswer, qualityAnswer};
+ghost use Rattle.fullband_erle_estimator.specs.Steps.{loudFor};
 
 // What turns a log2 figure into decibels.
 const DECIBEL_FACTOR: f32 = 3.0;
@@ -65,6 +66,29 @@ fn decibels(log2: f32) -> f32
     ensures { λ r. ⌜ r ≡ FullBand·decibels log2 ⌝ }
 {
     DECIBEL_FACTOR * log2
+}
+
+fn none_converged(converged_filters: &[bool]) -> bool
+    ensures { λ r. ⌜ r ≡ every not (now («converged_filters» .entry)) ⌝ }
+{
+    let mut none = true;
+    let mut ch = 0;
+    while ch < converged_filters.len() {
+        none = none & !converged_filters[ch];
+        ch += 1;
+    }
+    none
+}
+
+// Whether the render sum is above its threshold. It is not added up where no channel would look at it.
+fn is_loud(converged_filters: &[bool], x2: &[f32]) -> bool
+    ensures { λ r. ⌜ r ≡ loudFor (now («converged_filters» .entry)) (now (x2 .entry)) ⌝ }
+{
+    if none_converged(converged_filters) {
+        false
+    } else {
+        sum(x2) > X2_SUM_ENERGY_THRESHOLD
+    }
 }
 
 impl FullBandErleEstimator {
@@ -150,7 +174,7 @@ impl FullBandErleEstimator {
         );
         if refused == ACCEPTED {
             let min_erle_log2 = settings.min_erle_log2();
-            let loud = sum(x2) > X2_SUM_ENERGY_THRESHOLD;
+            let loud = is_loud(converged_filters, x2);
             for ch in 0..count {
                 let c = self.channels[ch];
                 if loud & converged_filters[ch] {

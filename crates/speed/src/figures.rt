@@ -1,6 +1,7 @@
 // The figures of an estimator added up in order, so that a driver can compare what was computed.
 use aec3_common::spectra::sum;
 use erl_estimator::ErlEstimator;
+use fullband_erle_estimator::FullBandErleEstimator;
 use subband_erle_estimator::SubbandChannel;
 use subband_erle_estimator::SubbandErleEstimator;
 ghost use Prim.Native.Nat.{_≤_};
@@ -39,6 +40,20 @@ pub fn subband_sum(estimator: SubbandErleEstimator, channels: usize) -> f32
     for ch in 0..channels {
         let channel = records[ch];
         total = channel_added(total, channel);
+    }
+    total
+}
+
+// Of a fullband estimator: channel by channel, the log2 figure and the quality estimate.
+pub fn fullband_sum(estimator: FullBandErleEstimator, channels: usize) -> f32
+    requires { ⌜ channels ≤ 4 ⌝ }
+{
+    let records = estimator.channels;
+    let mut total = 0.0;
+    for ch in 0..channels {
+        let channel = records[ch];
+        let instantaneous = channel.instantaneous_erle;
+        total = total + channel.erle_time_domain_log2 + instantaneous.inst_quality_estimate;
     }
     total
 }

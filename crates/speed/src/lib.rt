@@ -3,4 +3,5 @@
 mod blocks;
 mod erl;
 mod figures;
+mod fullband;
 mod subband;

@@ -1,11 +1,9 @@
 //! The speed of subband updates.
 
-use super::{measure, spectra, BLOCKS, ROUNDS};
+use super::blocks::{Blocks, FLAGS};
+use super::{measure, BLOCKS, ROUNDS};
 use crate::audio_processing::aec3::subband_erle_estimator::{peek_channel, SubbandErleEstimator};
-use crate::judge::BANDS;
 use crate::kinds::subband::Start;
-use crate::scripts::flags::Flags;
-use crate::scripts::random::Random;
 use crate::scripts::subband::example_start;
 
 extern "C" {
@@ -29,84 +27,51 @@ extern "C" {
     ) -> f32;
 }
 
-/// How the flags lie, with the word for it.
-const FLAGS: [(Flags, &str); 3] = [
-    (Flags::All, "converged"),
-    (Flags::None, "quiet"),
-    (Flags::Any, "mixed"),
-];
-
 pub fn speed() -> Result<(), String> {
     for (channels, onset) in [(1, true), (2, true), (4, true), (1, false), (4, false)] {
         for (flags, word) in FLAGS {
-            let blocks = Blocks::new(channels, onset, flags);
+            let case = Case {
+                blocks: Blocks::new(channels, flags),
+                onset,
+            };
             let detection = if onset { "on" } else { "off" };
             let name = format!("subband {channels} channels onset {detection} {word}");
-            measure(&name, || blocks.rust(), || blocks.port())?;
+            measure(&name, || case.rust(), || case.port())?;
         }
     }
     Ok(())
 }
 
-struct Blocks {
-    channels: usize,
+/// A case: the blocks, and whether onsets are detected.
+struct Case {
+    blocks: Blocks,
     onset: bool,
-    flags: Vec<bool>,
-    render: Vec<[f32; BANDS]>,
-    capture: Vec<[f32; BANDS]>,
-    residual: Vec<[f32; BANDS]>,
 }
 
-impl Blocks {
-    /// Renders mostly above the threshold, and ratios on both sides of the
-    /// minimum and of the maxima.
-    fn new(channels: usize, onset: bool, flags: Flags) -> Self {
-        let mut random = Random::new(31);
-        let count = BLOCKS * channels;
-        let block_flags = (0..BLOCKS).flat_map(|_| flags.draw(&mut random, channels));
-        let flags = block_flags.collect();
-        Self {
-            channels,
-            onset,
-            flags,
-            render: spectra(&mut random, BLOCKS, 25, 12),
-            capture: spectra(&mut random, count, 20, 6),
-            residual: spectra(&mut random, count, 19, 6),
-        }
-    }
-
+impl Case {
     fn rust(&self) -> f32 {
         let start = Start {
             onset: self.onset,
-            channels: self.channels as u32,
+            channels: self.blocks.channels as u32,
             ..example_start()
         };
         let mut estimator = start.estimator().expect("accepted settings");
-        for _ in 0..ROUNDS {
-            for block in 0..BLOCKS {
-                let from = block * self.channels;
-                estimator.update(
-                    &self.render[block],
-                    &self.capture[from..][..self.channels],
-                    &self.residual[from..][..self.channels],
-                    &self.flags[from..][..self.channels],
-                );
-            }
-        }
+        self.blocks.each(|x2, y2, e2, converged| estimator.update(x2, y2, e2, converged));
         figure_sum(&estimator)
     }
 
     fn port(&self) -> f32 {
-        let (capture, residual) = (self.capture.as_flattened(), self.residual.as_flattened());
-        let render = self.render.as_flattened();
+        let blocks = &self.blocks;
+        let (capture, residual) = (blocks.capture.as_flattened(), blocks.residual.as_flattened());
+        let render = blocks.render.as_flattened();
         // The pointers and lengths are those of the four lists, which the port
         // only reads.
         unsafe {
             speed_subband(
-                self.channels,
+                blocks.channels,
                 self.onset,
-                self.flags.as_ptr(),
-                self.flags.len(),
+                blocks.flags.as_ptr(),
+                blocks.flags.len(),
                 render.as_ptr(),
                 render.len(),
                 capture.as_ptr(),

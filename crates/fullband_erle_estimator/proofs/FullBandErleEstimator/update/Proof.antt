@@ -3,10 +3,8 @@ use borrow.Author.Needs.{needs}
 use borrow.Author.Tests.{eq-eqb, ne-eqb}
 use mathlib.Core.Path.{_≡_, refl, sym, ap, subst, _∙_}
 use mathlib.Core.Logic.{⊎-elim}
-use Prim.Native.Nat.{_+_, _-_, _*_, _≤_}
-use native.Mathlib.Nat.{le-refl}
+use Prim.Native.Nat.{_+_, _-_, _*_, _≤_, _<_}
 use native.Mathlib.Omega.{arith}
-use lib.Ieee.{ofBits}
 use lib.ListN.{length}
 use Rattle.aec3_common.specs.Binary32.{greatestValue, within}
 use Rattle.aec3_common.proofs.Bands.{part-length, part-every}
@@ -83,14 +81,15 @@ update-requires c κs =
     let a = start .args in
     let u = at .loop .inv .2 in
     let h = c .before .before .before .before .before .loop-test .taken in
-    let few : at .loop .ch * 65 + 65 ≤ length (a .y2 .now) = omega (arith, h, u .ok .longCapture) in (
+    let captures : at .loop .ch * 65 + 65 ≤ length (a .y2 .now) = omega (arith, h, u .ok .longCapture) in
+    let residuals : at .loop .ch * 65 + 65 ≤ length (a .e2 .now) = omega (arith, h, u .ok .longResidual) in (
       rw (stored-not-yet (u .stored)) (channel-passed (a .t1) (u .ok .state) (at .loop .ch) (four start) h),
-      rw (c .before .part .ensures, part-length (a .y2 .now) (at .loop .ch) few) (le-refl 65),
+      ap length (c .before .part .ensures) ∙ part-length (a .y2 .now) (at .loop .ch) captures,
+      ap length (c .part2 .ensures) ∙ part-length (a .e2 .now) (at .loop .ch) residuals,
       rw (c .before .part .ensures) (part-every (within greatestValue) (a .y2 .now) (at .loop .ch) (u .ok .captureOk)),
     )
 
 loop-again : tie.Need-loop-again Inv-loop μ-loop
-unfolding ofBits
 loop-again c =
     let at = c .before .before .before .before in
     let a = at .before .before .before .before .before .before .before .before .before .before .before .args in
@@ -98,25 +97,26 @@ loop-again c =
     let u = at .loop .inv .2 in
     let h = c .before .before .before .loop-test .taken in
     let held = stored-not-yet (u .stored) in
-    let total = at .before .sum .ensures in
+    let loud = at .before .is-loud .ensures in
     let least = at .before .before .min-erle-log2 .ensures in
     let s = a .t1 in
     let flags = a .converged-filters .now in
     let x = a .x2 .now in
     let y = a .y2 .now in
     let e = a .e2 .now in
-    let ch = at .loop .ch in (
+    let ch = at .loop .ch in
+    let below : ch < length flags = omega (arith, h, u .ok .flags) in (
       omega (arith, h),
       few,
       ⊎-elim
           (λ w.
           subst (λ (r : FullBandErleEstimator). Updating s flags x y e r (ch + 1)) (sym (w .4))
           (updating-more s flags x y e (at .loop .self) ch _ u h few
-          (w .3 .ensures ∙ rw (w .1 .ensures, w .2 .ensures, least) (heard-channel s flags x y e ch _ (rw total at (w .0 .taken)) held))))
+          (w .3 .ensures ∙ rw (w .1 .ensures, w .2 .ensures, least) (heard-channel s flags x y e ch _ below (rw loud at (w .0 .taken)) held))))
           (λ w.
           subst (λ (r : FullBandErleEstimator). Updating s flags x y e r (ch + 1)) (sym (w .2))
           (updating-more s flags x y e (at .loop .self) ch _ u h few
-          (w .1 .ensures ∙ quiet-channel s flags x y e ch _ (rw total at (w .0 .left)) held)))
+          (w .1 .ensures ∙ quiet-channel s flags x y e ch _ below (rw loud at (w .0 .left)) held)))
           (c .if2 .came),
     )
 

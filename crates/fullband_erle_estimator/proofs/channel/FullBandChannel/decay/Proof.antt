@@ -23,11 +23,11 @@ returns c =
     let at = c .before .before .before in
     simp (held at, c .reset-accumulators .ensures)
     (less (at .before .before .args .self) true
-    (ap isZero (sym (fell at)) ∙ word-zero (at .fallen .result) (at .fallen .ok) (c .before .if1 .taken)))
+    (ap isZero (sym (fell at)) ∙ word-zero (at .fallen .result) (at .fallen .ok) (c .before .before .if1 .taken)))
 
 returns-2 : tie.Need-returns-2
 returns-2 c =
-    let at = c .before .before in
+    let at = c .before in
     simp (held at)
     (less (at .before .before .args .self) false
     (ap isZero (sym (fell at)) ∙ word-not-zero (at .fallen .result) (c .if1 .left)))

@@ -1,0 +1,116 @@
+// Updates of the fullband estimator.
+use crate::blocks::flags_of;
+use crate::blocks::spectra_of;
+use crate::blocks::whole_blocks;
+use crate::figures::fullband_sum;
+use fullband_erle_estimator::FullBandErleEstimator;
+use fullband_erle_estimator::FullBandSettings;
+ghost use Prim.Native.Nat.{_*_, _≤_};
+ghost use lib.ListN.{length};
+
+// All blocks once.
+fn one_round(
+    estimator: FullBandErleEstimator,
+    channels: usize,
+    flags: &[bool],
+    render: &[f32],
+    capture: &[f32],
+    residual: &[f32],
+    blocks: usize,
+) -> FullBandErleEstimator
+    requires { ⌜ channels ≤ 4 ⌝ }
+    requires { ⌜ blocks * channels ≤ length (now flags) ⌝ }
+    requires { ⌜ blocks * 65 ≤ length (now render) ⌝ }
+    requires { ⌜ blocks * (channels * 65) ≤ length (now capture) ⌝ }
+    requires { ⌜ blocks * (channels * 65) ≤ length (now residual) ⌝ }
+{
+    let mut estimator = estimator;
+    for block in 0..blocks {
+        let answer = estimator.update(
+            channels,
+            flags_of(flags, block, channels),
+            spectra_of(render, block, 65),
+            spectra_of(capture, block, channels * 65),
+            spectra_of(residual, block, channels * 65),
+        );
+        estimator = answer.state;
+    }
+    estimator
+}
+
+// What the rounds begin with.
+fn started(channels: usize) -> FullBandErleEstimator {
+    let answer = FullBandErleEstimator::new(FullBandSettings {
+        min: 1.0,
+        max_l: 4.0,
+        max_h: 1.5,
+        clamp_quality_estimate_to_zero: true,
+        clamp_quality_estimate_to_one: true,
+        num_capture_channels: channels,
+    });
+    answer.state
+}
+
+// All rounds.
+fn all_rounds(
+    channels: usize,
+    flags: &[bool],
+    render: &[f32],
+    capture: &[f32],
+    residual: &[f32],
+    blocks: usize,
+    rounds: usize,
+) -> FullBandErleEstimator
+    requires { ⌜ channels ≤ 4 ⌝ }
+    requires { ⌜ blocks * channels ≤ length (now flags) ⌝ }
+    requires { ⌜ blocks * 65 ≤ length (now render) ⌝ }
+    requires { ⌜ blocks * (channels * 65) ≤ length (now capture) ⌝ }
+    requires { ⌜ blocks * (channels * 65) ≤ length (now residual) ⌝ }
+{
+    let mut estimator = started(channels);
+    for _ in 0..rounds {
+        estimator = one_round(
+            estimator,
+            channels,
+            flags,
+            render,
+            capture,
+            residual,
+            blocks,
+        );
+    }
+    estimator
+}
+
+// Runs a fullband estimator over all blocks, in order, and that so many rounds. A block has one flag for each channel,
+// 65 render numbers, and 65 capture and 65 residual numbers for each channel; blocks lie one after the other. Answers
+// the sum of the channels' figures and quality estimates; 0 where the channels are too many, or a slice is too short
+// for the blocks.
+#[no_mangle]
+pub extern "C" fn speed_fullband(
+    channels: usize,
+    flags: &[bool],
+    render: &[f32],
+    capture: &[f32],
+    residual: &[f32],
+    blocks: usize,
+    rounds: usize,
+) -> f32 {
+    if channels > 4 {
+        return 0.0;
+    }
+    if blocks > whole_blocks(flags.len(), channels) {
+        return 0.0;
+    }
+    if blocks > whole_blocks(render.len(), 65) {
+        return 0.0;
+    }
+    if blocks > whole_blocks(capture.len(), channels * 65) {
+        return 0.0;
+    }
+    if blocks > whole_blocks(residual.len(), channels * 65) {
+        return 0.0;
+    }
+    let estimator = all_rounds(channels, flags, render, capture, residual, blocks, rounds);
+    fullband_sum(estimator, channels)
+}
