@@ -2,3 +2,5 @@ pub mod Points
 pub mod Judged
 pub mod Least
 pub mod Updates
+pub mod Constants
+pub mod Cases

@@ -13,7 +13,7 @@ use Rattle.fullband_erle_estimator.specs.declared.instantaneous.Optional
 use Rattle.fullband_erle_estimator.specs.declared.instantaneous.OptionalNumber.the-variants.{Absent, Number}
 use Rattle.fullband_erle_estimator.specs.declared.instantaneous.ErleInstantaneous.{ErleInstantaneous}
 use Rattle.fullband_erle_estimator.specs.declared.channel.FullBandChannel.{FullBandChannel}
-use Rattle.fullband_erle_estimator.specs.Instantaneous.{allPoints, log2Above, captureWith, residualWith, isLastPoint, newLog2, accumulated, learnt, accumulatorsReset, clampedQuality, qualityOf, isPresent, optionalCase}
+use Rattle.fullband_erle_estimator.specs.Instantaneous.{allPoints, log2Above, captureWith, residualWith, isLastPoint, newLog2, holding, accumulated, learnt, accumulatorsReset, clampedQuality, qualityOf, isPresent, optionalCase}
 use Rattle.fullband_erle_estimator.specs.Channel.{figureShare, blocksToHold, withPoint, oneBlockLess}
 
 -- ---- a point
@@ -37,33 +37,15 @@ module _ (y e : Float) (i : ErleInstantaneous) where
       let failed = ap (λ (b : Bool). b && lt zero32 (residualWith y e i)) (sym counted) ∙ t in
       ap (λ (b : Bool). optionalCase b (log2Above (div binary32 (captureWith y e i) (residualWith y e i)))) (sym failed)
 
-  -- the same with other sums and points
-  abbrev pub holding : Float → Float → ℕ → ErleInstantaneous
-  holding capture residual points =
-      record {
-        «erle_log2» = i .«erle_log2»;
-        «inst_quality_estimate» = i .«inst_quality_estimate»;
-        «max_erle_log2» = i .«max_erle_log2»;
-        «min_erle_log2» = i .«min_erle_log2»;
-        «y2_accum» = capture;
-        «e2_accum» = residual;
-        «num_points» = points;
-      }
-
-  accumulated-by :
-      (t : Bool) → isLastPoint y e i ≡ t
-      → cond t (holding zero32 zero32 0) (holding (captureWith y e i) (residualWith y e i) (i .«num_points» + 1)) ≡ accumulated y e i
+  pub last-point : eqb (i .«num_points» + 1) allPoints ≡ true → holding zero32 zero32 0 i ≡ accumulated y e i
   unfolding accumulated
-  accumulated-by true l = rw l
-  accumulated-by false l = rw (l, add-one)
-
-  pub last-point : eqb (i .«num_points» + 1) allPoints ≡ true → holding zero32 zero32 0 ≡ accumulated y e i
-  last-point t = accumulated-by true (sym counted ∙ t)
+  last-point t = rw (sym counted ∙ t)
 
   pub more-points :
       eqb (i .«num_points» + 1) allPoints ≡ false
-      → holding (captureWith y e i) (residualWith y e i) (i .«num_points» + 1) ≡ accumulated y e i
-  more-points t = accumulated-by false (sym counted ∙ t)
+      → holding (captureWith y e i) (residualWith y e i) (i .«num_points» + 1) i ≡ accumulated y e i
+  unfolding accumulated
+  more-points t = rw (sym counted ∙ t, add-one)
 
 -- ---- a quality
 

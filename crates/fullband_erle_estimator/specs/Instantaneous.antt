@@ -61,6 +61,19 @@ allPoints = 6
 abbrev pub log2Above : Float → Float
 log2Above x = approxLog2 (add binary32 x epsilon)
 
+-- the same with other sums and another count of points
+unfoldable pub holding : Float → Float → ℕ → ErleInstantaneous → ErleInstantaneous
+holding capture residual points i =
+    record {
+      «erle_log2» = i .«erle_log2»;
+      «inst_quality_estimate» = i .«inst_quality_estimate»;
+      «max_erle_log2» = i .«max_erle_log2»;
+      «min_erle_log2» = i .«min_erle_log2»;
+      «y2_accum» = capture;
+      «e2_accum» = residual;
+      «num_points» = points;
+    }
+
 -- a point: the sums of a block's capture and residual power
 module _ (capture residual : Float) (i : ErleInstantaneous) where
   abbrev pub captureWith : Float
@@ -79,15 +92,7 @@ module _ (capture residual : Float) (i : ErleInstantaneous) where
   -- sums and count with the point; the sixth clears them
   unfoldable pub accumulated : ErleInstantaneous
   accumulated =
-      record {
-        «erle_log2» = i .«erle_log2»;
-        «inst_quality_estimate» = i .«inst_quality_estimate»;
-        «max_erle_log2» = i .«max_erle_log2»;
-        «min_erle_log2» = i .«min_erle_log2»;
-        «y2_accum» = cond isLastPoint zero32 captureWith;
-        «e2_accum» = cond isLastPoint zero32 residualWith;
-        «num_points» = cond isLastPoint 0 (suc (i .«num_points»));
-      }
+      cond isLastPoint (holding zero32 zero32 0 i) (holding captureWith residualWith (suc (i .«num_points»)) i)
 
 -- ---- a new log2 value
 

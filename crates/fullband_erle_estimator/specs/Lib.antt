@@ -1,4 +1,6 @@
 pub mod Instantaneous
 pub mod Channel
 pub mod FullBand
+pub mod Constants
+pub mod Cases
 pub mod Steps

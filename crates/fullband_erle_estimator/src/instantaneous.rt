@@ -5,7 +5,7 @@ use aec3_common::moved;
 use aec3_common::smaller;
 ghost use mathlib.Core.Path.{_≡_};
 ghost use Prim.Native.Nat.{_≤_};
-ghost use Rattle.fullband_erle_estimator.specs.Instantaneous.{newLog2, accumulated, greatestWith, leastWith, newQuality, qualityWith, accumulatorsReset, loweredQuality, clampedQuality, qualityOf, learnt as Instantaneous·learnt, fresh};
+ghost use Rattle.fullband_erle_estimator.specs.Instantaneous.{newLog2, accumulated, greatestWith, leastWith, newQuality, qualityWith, accumulatorsReset, loweredQuality, clampedQuality, qualityOf, holding as Instantaneous·holding, learnt as Instantaneous·learnt, fresh};
 ghost use Rattle.fullband_erle_estimator.specs.Steps.{PositiveRatio};
 
 pub const EPSILON: f32 = 0.001;
@@ -147,9 +147,9 @@ impl ErleInstantaneous {
         }
     }
 
-    // The same with other sums and points.
+    // The same with other sums and another count of points.
     fn holding(mut self, y2: f32, e2: f32, points: u32) -> ErleInstantaneous
-        ensures { λ r. ⌜ r ≡ (record { «erle_log2» = self .«erle_log2»; «inst_quality_estimate» = self .«inst_quality_estimate»; «max_erle_log2» = self .«max_erle_log2»; «min_erle_log2» = self .«min_erle_log2»; «y2_accum» = y2; «e2_accum» = e2; «num_points» = points }) ⌝ }
+        ensures { λ r. ⌜ r ≡ Instantaneous·holding y2 e2 points self ⌝ }
     {
         self.y2_accum = y2;
         self.e2_accum = e2;
