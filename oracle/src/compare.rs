@@ -1,6 +1,6 @@
 //! Compares the lines of the replay programs with those of the published Rust.
 
-use crate::lines::Lines;
+use crate::lines::{fields, Lines};
 use crate::program::Program;
 use crate::run::{run, Run};
 use crate::scripts::{Name, NAMES};
@@ -59,9 +59,9 @@ fn compare_one(program: Program, script: &[u8], file: &str) -> Result<usize, Str
     let (lines, records) = run(program, script);
     let replayed =
         replay_script(file, script).map_err(|error| format!("{file} does not run: {error}"))?;
-    if lines.as_bytes() != replayed.stdout {
-        let record = |line| record_of_line(program, script, line);
-        Err(first_difference(lines.as_bytes(), &replayed.stdout, record))
+    let record = |line| record_of_line(program, script, line);
+    if let Some(difference) = first_difference(lines.as_bytes(), &replayed.stdout, record) {
+        Err(difference)
     } else if !replayed.status.success() {
         Err(format!("same lines, but {file}: {}", replayed.status))
     } else {
@@ -85,25 +85,55 @@ fn replay_script(file: &str, script: &[u8]) -> io::Result<Output> {
 }
 
 /// Words for the first line that differs, with the record of its number.
-fn first_difference(expected: &[u8], printed: &[u8], record: impl Fn(usize) -> String) -> String {
+fn first_difference(
+    expected: &[u8],
+    printed: &[u8],
+    record: impl Fn(usize) -> String,
+) -> Option<String> {
+    if expected == printed {
+        return None;
+    }
     let mut ours = expected.split_inclusive(|&byte| byte == b'\n');
     let mut theirs = printed.split_inclusive(|&byte| byte == b'\n');
     let mut number = 0;
     loop {
         number += 1;
-        let (wanted, given) = (ours.next(), theirs.next());
-        if wanted != given {
-            return format!(
-                "line {number}\n  Rust:   {}\n  replay: {}\n  {}",
-                shown_line(wanted),
-                shown_line(given),
-                record(number)
-            );
-        }
-        if wanted.is_none() {
-            return "no line differs".to_string();
+        match (ours.next(), theirs.next()) {
+            (None, None) => return None,
+            (Some(wanted), Some(given)) if same_line(wanted, given) => (),
+            (wanted, given) => {
+                return Some(format!(
+                    "line {number}\n  Rust:   {}\n  replay: {}\n  {}",
+                    shown_line(wanted),
+                    shown_line(given),
+                    record(number)
+                ))
+            }
         }
     }
+}
+
+/// The fields of a `full` line before the qualities: its name and two figures.
+const BEFORE_THE_QUALITIES: usize = 3;
+
+/// Whether two lines count as the same. The published clamp of a quality may
+/// answer either zero where both signs meet, so in the qualities that it gives
+/// zeros of two signs are equal, and nowhere else.
+fn same_line(wanted: &[u8], given: &[u8]) -> bool {
+    wanted == given || without_signs_of_zeros(wanted) == without_signs_of_zeros(given)
+}
+
+/// A line with plus zero for minus zero in the qualities, if it has some.
+fn without_signs_of_zeros(line: &[u8]) -> String {
+    let text = String::from_utf8_lossy(line);
+    if !text.starts_with("full ") {
+        return text.into_owned();
+    }
+    let plus = |(place, field): (usize, &str)| match place < BEFORE_THE_QUALITIES {
+        true => field.to_string(),
+        false => field.replace("80000000", "00000000"),
+    };
+    fields(text.split(' ').enumerate().map(plus))
 }
 
 fn shown_line(line: Option<&[u8]>) -> String {
@@ -133,4 +163,30 @@ fn shown_bytes(bytes: &[u8]) -> String {
         text += &format!(" and {} bytes more", bytes.len() - shown.len());
     }
     text
+}
+
+#[cfg(test)]
+mod tests {
+    use super::same_line;
+
+    #[test]
+    fn zeros_of_two_signs_are_equal_in_qualities_alone() {
+        let lines: [&[u8]; 2] = [
+            b"full 3D6ED000 3E331C00 00000000 absent 80000000\n",
+            b"full 3D6ED000 3E331C00 80000000 absent 00000000\n",
+        ];
+        assert!(same_line(lines[0], lines[1]));
+        for (one, other) in [
+            ("full 00000000 0 0\n", "full 80000000 0 0\n"),
+            ("full 0 00000000 0\n", "full 0 80000000 0\n"),
+            ("full 0 0 00000000\n", "full 0 0 00000001\n"),
+            ("full 0 0 00000000\n", "full 0 0 absent\n"),
+            ("full 0 0 00000000\n", "full 0 0 80000000"),
+            ("full 0 0 00000000\n", "full 0 0 80000000 0\n"),
+            ("fullstate 0 0 0 00000000\n", "fullstate 0 0 0 80000000\n"),
+            ("erl 0 0 00000000\n", "erl 0 0 80000000\n"),
+        ] {
+            assert!(!same_line(one.as_bytes(), other.as_bytes()));
+        }
+    }
 }

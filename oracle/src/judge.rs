@@ -1,7 +1,8 @@
 //! The calls that document 01 turns away, by its numbers and in its order. The
 //! published Rust asserts or answers anything there, so it is not asked.
 
-use crate::kinds::{erl, subband};
+use crate::kinds::call::Call;
+use crate::kinds::erl;
 use std::fmt;
 use std::ops::RangeInclusive;
 
@@ -93,19 +94,19 @@ pub fn erl_update(call: &erl::Call) -> Judged {
 }
 
 /// 1: not 1 <= min <= max_l, max_h <= 100,000. 2: a channel count out of range.
-pub fn subband_start(start: &subband::Start) -> Judged {
-    let in_order = start.min >= 1.0
-        && [start.max_l, start.max_h]
+pub fn erle_start([min, max_l, max_h]: [f32; 3], channels: u32) -> Judged {
+    let in_order = min >= 1.0
+        && [max_l, max_h]
             .iter()
-            .all(|max| (start.min..=GREATEST_ERLE).contains(max));
+            .all(|max| (min..=GREATEST_ERLE).contains(max));
     refuse_if(!in_order, 1)?;
-    refuse_if(!CAPTURE_CHANNELS.contains(&start.channels), 2)
+    refuse_if(!CAPTURE_CHANNELS.contains(&channels), 2)
 }
 
 /// 21: a channel count that is not the state's. 5: flags, renders, captures or
 /// residuals not as many as the count asks. 6: a value out of range, in a
 /// converged channel or not.
-pub fn subband_update(call: &subband::Call, channels: usize) -> Judged {
+pub fn erle_update(call: &Call, channels: usize) -> Judged {
     refuse_if(call.channels as usize != channels, 21)?;
     let asked = call.flags.len() == channels
         && call.render.len() == BANDS

@@ -10,7 +10,19 @@ pub struct Hex(pub f32);
 impl fmt::Display for Hex {
     fn fmt(&self, f: &mut fmt::Formatter<'_>) -> fmt::Result {
         let digits = hex_digits(self.0);
-        digits.iter().try_for_each(|&d| write!(f, "{}", d as char))
+        f.write_str(std::str::from_utf8(&digits).expect("digits are text"))
+    }
+}
+
+/// A binary32 number, or `absent`.
+pub struct Estimate(pub Option<f32>);
+
+impl fmt::Display for Estimate {
+    fn fmt(&self, f: &mut fmt::Formatter<'_>) -> fmt::Result {
+        match self.0 {
+            Some(number) => Hex(number).fmt(f),
+            None => f.write_str("absent"),
+        }
     }
 }
 

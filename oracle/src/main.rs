@@ -27,10 +27,10 @@ use std::process::ExitCode;
 const USAGE: &str = "usage:
   oracle run PROGRAM < script > lines
   oracle generate NAME [NUMBER] > script
-  oracle compare [REPLAY [REPLAY_SUBBAND]]
+  oracle compare [REPLAY [REPLAY_PARTS]]
   oracle samples PROGRAM DIR
   oracle speed
-where PROGRAM is replay or replay_subband";
+where PROGRAM is replay or replay_parts";
 
 fn main() -> ExitCode {
     let arguments: Vec<String> = env::args().skip(1).collect();

@@ -4,17 +4,17 @@
 pub enum Program {
     /// Leaves and ERL.
     Replay,
-    /// The subband estimator.
-    ReplaySubband,
+    /// The parts of the ERLE estimator, each alone.
+    ReplayParts,
 }
 
 impl Program {
-    pub const ALL: [Self; 2] = [Self::Replay, Self::ReplaySubband];
+    pub const ALL: [Self; 2] = [Self::Replay, Self::ReplayParts];
 
     pub fn name(self) -> &'static str {
         match self {
             Self::Replay => "replay",
-            Self::ReplaySubband => "replay_subband",
+            Self::ReplayParts => "replay_parts",
         }
     }
 

@@ -2,6 +2,7 @@
 //! published Rust itself.
 
 mod erl;
+mod fullband;
 mod subband;
 
 use crate::audio_processing::aec3::signal_dependent_erle_estimator::{
@@ -11,7 +12,7 @@ use crate::judge;
 use crate::program::Program;
 use crate::record::take_record;
 use crate::run::run;
-use crate::scripts::{named, Script};
+use crate::scripts::{named, stored_sample, Script};
 
 /// The lines of leaves and ERL for a script that one closure fills.
 fn lines(fill: impl Fn(&mut Script)) -> String {
@@ -156,4 +157,12 @@ fn malformed_records_end_the_run() {
         s.bytes.pop();
     });
     assert_eq!(cut, "ring next 4 offset 3\nbad\n");
+}
+
+#[test]
+fn the_sample_of_the_parts_is_small() {
+    let script = stored_sample(Program::ReplayParts);
+    assert!(script.bytes.len() <= 350_000);
+    let (lines, _) = run(Program::ReplayParts, &script.bytes);
+    assert!(lines.as_bytes().len() <= 1_500_000);
 }

@@ -1,7 +1,10 @@
 //! The kinds of records, one module for each group of them.
 
+pub mod call;
 pub mod erl;
+pub mod fullband;
 pub mod leaves;
+pub mod part;
 pub mod subband;
 
 use crate::judge::Judged;
@@ -9,13 +12,21 @@ use crate::lines::{Answer, Lines};
 use crate::program::Program;
 use crate::record::{Malformed, Record};
 use erl::Erl;
+use fullband::FullBand;
 use leaves::Leaves;
+use part::{Part, Standing};
 use subband::Subband;
 
 /// What the groups of kinds of a program keep from record to record.
 pub enum Groups {
-    Replay { leaves: Leaves, erl: Erl },
-    ReplaySubband(Subband),
+    Replay {
+        leaves: Leaves,
+        erl: Erl,
+    },
+    ReplayParts {
+        subband: Standing<Subband>,
+        fullband: Standing<FullBand>,
+    },
 }
 
 impl Groups {
@@ -25,7 +36,10 @@ impl Groups {
                 leaves: Leaves::new(),
                 erl: Erl::default(),
             },
-            Program::ReplaySubband => Self::ReplaySubband(Subband::default()),
+            Program::ReplayParts => Self::ReplayParts {
+                subband: Standing::default(),
+                fullband: Standing::default(),
+            },
         }
     }
 
@@ -36,7 +50,10 @@ impl Groups {
                 leaves::LOG2 | leaves::RING | leaves::SECTIONS => leaves.answer(record, lines),
                 _ => erl.answer(record, lines),
             },
-            Self::ReplaySubband(subband) => subband.answer(record, lines),
+            Self::ReplayParts { subband, fullband } => match record.kind {
+                FullBand::START..=FullBand::REPEAT => fullband.answer(record, lines),
+                _ => subband.answer(record, lines),
+            },
         }
     }
 }

@@ -6,7 +6,6 @@ mod long;
 mod refused;
 pub mod sample;
 mod stretches;
-pub mod sums;
 
 use super::random::Random;
 use super::spectra::{any_power, Spectrum};
@@ -29,6 +28,9 @@ pub const CHANNELS: [(usize, usize); 8] = [
 
 /// Startup counts; no script is long enough for the last.
 const STARTUPS: [u32; 6] = [0, 1, 2, 5, 40, u32::MAX];
+
+/// The least ERL.
+const LEAST_ERL: f32 = 0.01;
 
 /// How many scripts of random stretches there are.
 const STRETCHES: u64 = 8;

@@ -5,13 +5,19 @@ mod damaged;
 pub mod erl;
 mod faults;
 pub mod flags;
+pub mod fullband;
 mod leaves;
+pub mod part;
+mod parts_sample;
 pub mod random;
 mod sample;
 pub mod spectra;
 pub mod subband;
+pub mod sums;
 
 use crate::kinds;
+use crate::kinds::call::Call;
+use crate::kinds::part::{Part, Settings};
 use crate::program::Program;
 
 /// Makes a script.
@@ -40,7 +46,7 @@ impl Name {
     }
 }
 
-pub const NAMES: [Name; 7] = [
+pub const NAMES: [Name; 9] = [
     Name::new("log2", Program::Replay, || vec![Box::new(leaves::log2)]),
     Name::new("ring", Program::Replay, || vec![Box::new(leaves::ring)]),
     Name::new("sections", Program::Replay, || {
@@ -48,9 +54,13 @@ pub const NAMES: [Name; 7] = [
     }),
     Name::new("erl", Program::Replay, erl::scripts),
     Name::new("damaged", Program::Replay, || made(damaged::scripts())),
-    Name::new("subband", Program::ReplaySubband, subband::scripts),
-    Name::new("damaged_subband", Program::ReplaySubband, || {
-        made(subband::damaged::scripts())
+    Name::new("subband", Program::ReplayParts, subband::scripts),
+    Name::new("damaged_subband", Program::ReplayParts, || {
+        made(subband::damaged_scripts())
+    }),
+    Name::new("fullband", Program::ReplayParts, fullband::scripts),
+    Name::new("damaged_fullband", Program::ReplayParts, || {
+        made(fullband::damaged_scripts())
     }),
 ];
 
@@ -68,7 +78,7 @@ fn made(scripts: Vec<Script>) -> Vec<Maker> {
 pub fn stored_sample(program: Program) -> Script {
     match program {
         Program::Replay => sample::script(),
-        Program::ReplaySubband => subband::sample::script(),
+        Program::ReplayParts => parts_sample::script(),
     }
 }
 
@@ -108,22 +118,23 @@ impl Script {
         self.record(kinds::erl::RESET, &[]);
     }
 
-    pub fn subband_start(&mut self, start: &kinds::subband::Start) {
-        self.record(kinds::subband::START, &start.body());
+    /// A start of a part of the ERLE estimator.
+    pub fn start<P: Part>(&mut self, start: &P::Start) {
+        self.record(P::START, &start.body());
     }
 
-    pub fn subband_update(&mut self, call: &kinds::subband::Call) {
-        self.whole(kinds::subband::UPDATE, &call.body());
+    pub fn update<P: Part>(&mut self, call: &Call) {
+        self.whole(P::UPDATE, &call.body());
     }
 
-    pub fn subband_reset(&mut self) {
-        self.record(kinds::subband::RESET, &[]);
+    pub fn reset<P: Part>(&mut self) {
+        self.record(P::RESET, &[]);
     }
 
     /// The same update so many times.
-    pub fn subband_repeat(&mut self, times: u32, call: &kinds::subband::Call) {
+    pub fn repeat<P: Part>(&mut self, times: u32, call: &Call) {
         let body = [field_bytes(&[times]), call.body()].concat();
-        self.whole(kinds::subband::REPEAT, &body);
+        self.whole(P::REPEAT, &body);
     }
 
     /// A record whose body is these fields.

@@ -2,8 +2,10 @@
 
 use super::blocks::{Blocks, FLAGS};
 use super::{measure, BLOCKS, ROUNDS};
-use crate::api::config::EchoCanceller3Config;
-use crate::audio_processing::aec3::fullband_erle_estimator::{peek_channel, FullBandErleEstimator};
+use crate::audio_processing::aec3::fullband_erle_estimator::peek_channel;
+use crate::kinds::fullband::{FullBand, Start};
+use crate::kinds::part::Part;
+use crate::scripts::fullband::example_start;
 
 extern "C" {
     /// Starts with min 1, max_l 4, max_h 1.5 and both clamps on, runs the blocks,
@@ -36,11 +38,11 @@ pub fn speed() -> Result<(), String> {
 }
 
 fn rust(blocks: &Blocks) -> f32 {
-    let mut config = EchoCanceller3Config::default();
-    config.erle.min = 1.0;
-    config.erle.max_l = 4.0;
-    config.erle.max_h = 1.5;
-    let mut estimator = FullBandErleEstimator::new(&config.erle, blocks.channels);
+    let start = Start {
+        channels: blocks.channels as u32,
+        ..example_start()
+    };
+    let mut estimator = FullBand::started(&start).expect("accepted settings");
     blocks.each(|x2, y2, e2, converged| estimator.update(x2, y2, e2, converged));
     (0..blocks.channels).fold(0.0, |sum, channel| {
         let shown = peek_channel(&estimator, channel);
@@ -49,7 +51,10 @@ fn rust(blocks: &Blocks) -> f32 {
 }
 
 fn port(blocks: &Blocks) -> f32 {
-    let (capture, residual) = (blocks.capture.as_flattened(), blocks.residual.as_flattened());
+    let (capture, residual) = (
+        blocks.capture.as_flattened(),
+        blocks.residual.as_flattened(),
+    );
     let render = blocks.render.as_flattened();
     // The pointers and lengths are those of the four lists, which the port only
     // reads.

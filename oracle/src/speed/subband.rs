@@ -3,7 +3,8 @@
 use super::blocks::{Blocks, FLAGS};
 use super::{measure, BLOCKS, ROUNDS};
 use crate::audio_processing::aec3::subband_erle_estimator::{peek_channel, SubbandErleEstimator};
-use crate::kinds::subband::Start;
+use crate::kinds::part::Part;
+use crate::kinds::subband::{Start, Subband};
 use crate::scripts::subband::example_start;
 
 extern "C" {
@@ -55,14 +56,18 @@ impl Case {
             channels: self.blocks.channels as u32,
             ..example_start()
         };
-        let mut estimator = start.estimator().expect("accepted settings");
-        self.blocks.each(|x2, y2, e2, converged| estimator.update(x2, y2, e2, converged));
+        let mut estimator = Subband::started(&start).expect("accepted settings");
+        self.blocks
+            .each(|x2, y2, e2, converged| estimator.update(x2, y2, e2, converged));
         figure_sum(&estimator)
     }
 
     fn port(&self) -> f32 {
         let blocks = &self.blocks;
-        let (capture, residual) = (blocks.capture.as_flattened(), blocks.residual.as_flattened());
+        let (capture, residual) = (
+            blocks.capture.as_flattened(),
+            blocks.residual.as_flattened(),
+        );
         let render = blocks.render.as_flattened();
         // The pointers and lengths are those of the four lists, which the port
         // only reads.

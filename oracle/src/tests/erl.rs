@@ -4,9 +4,9 @@ use super::{lines, number, records_of_kind};
 use crate::judge::BANDS;
 use crate::kinds::erl::{Call, UPDATE};
 use crate::program::Program;
-use crate::scripts::erl::sums::SUM_T;
 use crate::scripts::erl::{call, flat};
 use crate::scripts::spectra::{LOUD, T};
+use crate::scripts::sums::SUM_T;
 use crate::scripts::{stored_sample, Script};
 
 /// The figures after a script's last call: band 32 and the time domain.

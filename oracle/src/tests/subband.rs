@@ -2,11 +2,14 @@
 
 use super::{lines_of, number, records_of_kind};
 use crate::judge::{BANDS, GREATEST_ERLE, GREATEST_VALUE};
-use crate::kinds::subband::{Call, Start, START, UPDATE};
+use crate::kinds::call::Call;
+use crate::kinds::part::{Part, Settings};
+use crate::kinds::subband::{Start, Subband};
 use crate::program::Program;
+use crate::scripts::part::{converged, flat, POINTS};
 use crate::scripts::spectra::{LOUD, T};
-use crate::scripts::subband::{converged, example_start, flat, POINTS};
-use crate::scripts::{stored_sample, Script};
+use crate::scripts::subband::example_start;
+use crate::scripts::Script;
 
 /// The figure that the example's six blocks give, from 1 and a ratio of 3.
 const MOVED: u32 = 0x3F8C_CCCD;
@@ -15,7 +18,7 @@ const MOVED: u32 = 0x3F8C_CCCD;
 const DECAYED: u32 = 0x3F88_9375;
 
 fn lines(fill: impl Fn(&mut Script)) -> String {
-    lines_of(Program::ReplaySubband, fill)
+    lines_of(Program::ReplayParts, fill)
 }
 
 /// What stands after a script's last call.
@@ -28,9 +31,9 @@ impl Standing {
     fn after(start: Start, calls: &[(u32, Call)]) -> Self {
         Self {
             text: lines(|script| {
-                script.subband_start(&start);
+                script.start::<Subband>(&start);
                 for (times, call) in calls {
-                    script.subband_repeat(*times, call);
+                    script.repeat::<Subband>(*times, call);
                 }
             }),
         }
@@ -213,10 +216,10 @@ fn without_onset_detection_the_compensated_stream_stays() {
 fn a_reset_clears_points_and_low_energy() {
     let text = |blocks: u32| {
         lines(|script| {
-            script.subband_start(&example_start());
-            script.subband_repeat(3, &converged(1, 0.0, 3.0, 1.0));
-            script.subband_reset();
-            script.subband_repeat(blocks, &converged(1, LOUD, 3.0, 1.0));
+            script.start::<Subband>(&example_start());
+            script.repeat::<Subband>(3, &converged(1, 0.0, 3.0, 1.0));
+            script.reset::<Subband>();
+            script.repeat::<Subband>(blocks, &converged(1, LOUD, 3.0, 1.0));
         })
     };
     let (five, six) = (Standing { text: text(5) }, Standing { text: text(6) });
@@ -253,7 +256,7 @@ fn the_longest_rest() {
 
 /// The answer to one start.
 fn start_answer(start: Start) -> String {
-    let text = lines(|script| script.subband_start(&start));
+    let text = lines(|script| script.start::<Subband>(&start));
     text.lines().next().unwrap().to_string()
 }
 
@@ -308,10 +311,10 @@ fn refused_updates_in_their_order() {
 #[test]
 fn nothing_stands_before_an_accepted_start() {
     let text = lines(|script| {
-        script.subband_reset();
-        script.subband_update(&converged(1, LOUD, 3.0, 1.0));
-        script.subband_start(&with_settings(1.0, 0.5, 1.0));
-        script.subband_repeat(2, &converged(1, LOUD, 3.0, 1.0));
+        script.reset::<Subband>();
+        script.update::<Subband>(&converged(1, LOUD, 3.0, 1.0));
+        script.start::<Subband>(&with_settings(1.0, 0.5, 1.0));
+        script.repeat::<Subband>(2, &converged(1, LOUD, 3.0, 1.0));
     });
     assert_eq!(
         text,
@@ -323,8 +326,8 @@ fn nothing_stands_before_an_accepted_start() {
 fn a_repeat_is_as_many_updates() {
     let call = converged(1, LOUD, 3.0, 1.0);
     let one_by_one = lines(|script| {
-        script.subband_start(&example_start());
-        (0..100).for_each(|_| script.subband_update(&call));
+        script.start::<Subband>(&example_start());
+        (0..100).for_each(|_| script.update::<Subband>(&call));
     });
     let repeated = after(&[(100, call)]).text;
     let figures = 1 + 11;
@@ -341,15 +344,15 @@ fn malformed_bodies_end_the_run() {
     let mut other_flag = call.body();
     other_flag[20] = 2;
     let damage: [&dyn Fn(&mut Script); 4] = [
-        &|script| script.record(START, &other_onset),
-        &|script| script.whole(UPDATE, &other_flag),
-        &|script| script.subband_repeat(0, &call),
-        &|script| script.subband_repeat(65_536, &call),
+        &|script| script.record(Subband::START, &other_onset),
+        &|script| script.whole(Subband::UPDATE, &other_flag),
+        &|script| script.repeat::<Subband>(0, &call),
+        &|script| script.repeat::<Subband>(65_536, &call),
     ];
     for damaged in damage {
         let text = lines(|script| {
             damaged(script);
-            script.subband_reset();
+            script.reset::<Subband>();
         });
         assert_eq!(text, "bad\n");
     }
@@ -357,20 +360,12 @@ fn malformed_bodies_end_the_run() {
 
 #[test]
 fn each_program_has_kinds_of_its_own() {
-    let reset = |script: &mut Script| script.subband_reset();
+    let reset = |script: &mut Script| script.reset::<Subband>();
     assert_eq!(lines_of(Program::Replay, reset), "bad\n");
     assert_eq!(lines(|script| script.erl_reset()), "bad\n");
 }
 
 #[test]
 fn the_scripts_hold_three_hundred_thousand_updates() {
-    assert!(records_of_kind("subband", UPDATE) >= 300_000);
-}
-
-#[test]
-fn the_sample_is_small() {
-    let script = stored_sample(Program::ReplaySubband);
-    assert!(script.bytes.len() <= 300_000);
-    let (lines, _) = crate::run::run(Program::ReplaySubband, &script.bytes);
-    assert!(lines.as_bytes().len() <= 1_500_000);
+    assert!(records_of_kind("subband", Subband::UPDATE) >= 300_000);
 }

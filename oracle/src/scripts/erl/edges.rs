@@ -1,11 +1,11 @@
 //! Calls at the thresholds, and every mixture of flags.
 
-use super::sums::{sum, with_sum, with_tied_sum, LEAST_ERL, SUM_T};
-use super::{flat, spread, Walk, CHANNELS, STARTUPS};
+use super::{flat, spread, Walk, CHANNELS, LEAST_ERL, STARTUPS};
 use crate::judge::BANDS;
 use crate::scripts::flags::{converged, mask_flags};
 use crate::scripts::random::Random;
 use crate::scripts::spectra::{any_power, beside, powers, Power, Spectrum, SPECIALS, T};
+use crate::scripts::sums::spectra_about_the_sum;
 use crate::scripts::Script;
 
 /// How many spectra are made for one sum.
@@ -54,18 +54,6 @@ fn single_bands(walk: &mut Walk, random: &mut Random, captures: usize, renders: 
             walk.update(&spread(random, &flags, renders, &render, &[1.0; BANDS]));
         }
     }
-}
-
-/// Spectra whose sums lie at the threshold, one step beside it, or half way
-/// between two steps; and the one that is T in all bands.
-pub fn spectra_about_the_sum(random: &mut Random) -> Vec<Spectrum> {
-    let mut spectra = vec![[T; BANDS]];
-    assert_eq!(sum(&spectra[0]), 2_860_980_480.0);
-    for target in beside(SUM_T) {
-        spectra.push(with_sum(random, target));
-        spectra.push(with_tied_sum(random, target));
-    }
-    spectra
 }
 
 /// Captures in a ratio to the renders from somewhat below the least ERL up.

@@ -1,8 +1,7 @@
 //! Runs long enough for holds to run out and for the ERL to double up to its
 //! greatest value.
 
-use super::sums::LEAST_ERL;
-use super::{spread, Walk, CHANNELS, STARTUPS};
+use super::{spread, Walk, CHANNELS, LEAST_ERL, STARTUPS};
 use crate::judge::{BANDS, GREATEST_VALUE};
 use crate::scripts::flags::converged;
 use crate::scripts::random::Random;

@@ -1,12 +1,12 @@
 //! The ERL part of the stored sample.
 
-use super::edges::spectra_about_the_sum;
 use super::refused::{good_call, COUNTS, LENGTHS, VALUES};
 use super::{flat, spread, Walk, CHANNELS};
 use crate::judge::BANDS;
 use crate::scripts::flags::{converged, mask_flags};
 use crate::scripts::random::Random;
 use crate::scripts::spectra::{any_power, beside, powers, Power, SPECIALS, T};
+use crate::scripts::sums::spectra_about_the_sum;
 use crate::scripts::Script;
 
 /// Adds the ERL calls to what stands in a script.

@@ -1,14 +1,13 @@
 //! Random calls, in stretches of one manner each.
 
-use super::edges::spectra_about_the_sum;
 use super::refused::FAULTS;
-use super::sums::LEAST_ERL;
-use super::{spread, Walk, CHANNELS, STARTUPS};
+use super::{spread, Walk, CHANNELS, LEAST_ERL, STARTUPS};
 use crate::judge::{BANDS, GREATEST_VALUE};
 use crate::scripts::faults::spoil;
 use crate::scripts::flags::Flags;
 use crate::scripts::random::Random;
 use crate::scripts::spectra::{any_power, beside, powers, Power, Spectrum, POWERS};
+use crate::scripts::sums::spectra_about_the_sum;
 use crate::scripts::Script;
 
 const UPDATES: u32 = 18_000;

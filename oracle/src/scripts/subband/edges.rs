@@ -1,9 +1,10 @@
 //! Calls at the thresholds and with special values, and settings at their
 //! limits.
 
-use super::{call, converged, infinite, start, Walk, POINTS, SETTINGS};
+use super::{start, Walk};
 use crate::judge::{BANDS, GREATEST_VALUE};
-use crate::kinds::subband::Call;
+use crate::kinds::call::Call;
+use crate::scripts::part::{call, converged, infinite, POINTS, SETTINGS};
 use crate::scripts::spectra::{beside, Spectrum, LOUD, SPECIALS, T};
 use crate::scripts::Script;
 

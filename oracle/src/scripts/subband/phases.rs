@@ -1,9 +1,10 @@
 //! What comes between the six points: resets, starts, unconverged and refused
 //! blocks, and channels that stand at different points.
 
-use super::{call, converged, example_start, quiet, start, Walk, POINTS, SETTINGS};
-use crate::kinds::subband::Call;
+use super::{example_start, start, Walk};
+use crate::kinds::call::Call;
 use crate::scripts::flags::{mask_flags, Flags};
+use crate::scripts::part::{call, converged, quiet, POINTS, SETTINGS};
 use crate::scripts::random::Random;
 use crate::scripts::spectra::{power, powers, Power, Spectrum, LOUD};
 use crate::scripts::Script;

@@ -1,7 +1,8 @@
 //! Long rests: holds that run out and the decay of the compensated stream.
 
-use super::{converged, infinite, quiet, same, start, Walk, POINTS, SETTINGS};
+use super::{start, Walk};
 use crate::judge::BANDS;
+use crate::scripts::part::{converged, infinite, quiet, same, POINTS, SETTINGS};
 use crate::scripts::random::Random;
 use crate::scripts::spectra::{any_power, power, Power, LOUD, T};
 use crate::scripts::Script;

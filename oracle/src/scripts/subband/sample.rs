@@ -1,23 +1,24 @@
-//! The stored sample of the subband estimator: document 01's example first, then
-//! readings of the source, rests, limits, refusals and a few random calls, and a
-//! record cut short at the end. Each update prints all that is held, so what
-//! need not be seen stands in repeats.
+//! The subband part of the stored sample: document 01's example first, then
+//! readings of the source, rests, limits, refusals and a few random calls. Each
+//! update prints all that is held, so what need not be seen stands in repeats.
 
 use super::edges::special_call;
-use super::refused::{good_call, FAULTS};
-use super::starts::calls_without_a_start;
-use super::{converged, example_start, flat, infinite, quiet, start, Walk, POINTS, SETTINGS};
+use super::{example_start, start, Walk};
 use crate::judge::{BANDS, CAPTURE_CHANNELS, GREATEST_ERLE};
 use crate::kinds::subband::Start;
+use crate::scripts::part::refused::{good_call, FAULTS};
+use crate::scripts::part::starts::calls_without_a_start;
+use crate::scripts::part::{converged, flat, infinite, quiet, POINTS, SETTINGS};
 use crate::scripts::random::Random;
-use crate::scripts::spectra::{beside, LOUD, T};
+use crate::scripts::spectra::{beside, Power, LOUD, T};
 use crate::scripts::Script;
 
 const SIX: u32 = POINTS as u32;
 
-pub fn script() -> Script {
+/// Adds the subband calls to what stands in a script.
+pub fn add(script: Script) -> Script {
     let mut random = Random::new(17);
-    let mut walk = Walk::default();
+    let mut walk = Walk::behind(script);
     example(&mut walk);
     points(&mut walk);
     low_energy(&mut walk);
@@ -30,8 +31,6 @@ pub fn script() -> Script {
     for channels in CAPTURE_CHANNELS {
         random_calls(&mut walk, &mut random, channels as usize);
     }
-    walk.reset();
-    walk.script.bytes.pop();
     walk.script
 }
 
@@ -181,7 +180,7 @@ fn special_values(walk: &mut Walk) {
 /// Each fault alone, some together, and a good call at the end.
 fn faults(walk: &mut Walk, random: &mut Random) {
     walk.start(&example_start());
-    let good = good_call(random, 1, 1);
+    let good = good_call(random, Power::Near, 1, 1);
     for fault in FAULTS.iter().copied().flatten() {
         let mut call = good.clone();
         fault(&mut call);
@@ -200,8 +199,8 @@ fn faults(walk: &mut Walk, random: &mut Random) {
 fn random_calls(walk: &mut Walk, random: &mut Random, channels: usize) {
     walk.start(&start(SETTINGS[7], channels != 3, channels));
     for mask in [0b1111, 0b0110, 0b1011, 0b1111] {
-        walk.repeat(5, &good_call(random, mask, channels));
-        walk.update(&good_call(random, mask, channels));
+        walk.repeat(5, &good_call(random, Power::Near, mask, channels));
+        walk.update(&good_call(random, Power::Near, mask, channels));
     }
     walk.reset();
 }

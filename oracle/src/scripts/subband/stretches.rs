@@ -1,12 +1,13 @@
 //! Random calls, in stretches of one manner each.
 
-use super::refused::FAULTS;
-use super::{call, quiet, start, Walk, POINTS, SETTINGS};
+use super::{start, Walk};
 use crate::audio_processing::aec3::subband_erle_estimator::{peek_channel, SubbandErleEstimator};
 use crate::judge::{BANDS, GREATEST_ERLE, GREATEST_VALUE};
 use crate::kinds::subband::Start;
 use crate::scripts::faults::spoil;
 use crate::scripts::flags::Flags;
+use crate::scripts::part::refused::FAULTS;
+use crate::scripts::part::{call, draw_limits, quiet, refused_start, POINTS};
 use crate::scripts::random::Random;
 use crate::scripts::spectra::{any_power, beside, power, powers, Power, Spectrum, POWERS, T};
 use crate::scripts::Script;
@@ -44,33 +45,9 @@ pub fn script(seed: u64) -> Script {
 }
 
 fn draw_start(random: &mut Random) -> Start {
-    let settings = match random.below(2) {
-        0 => random.one_of(&SETTINGS),
-        _ => {
-            let min = 1.0 + 4.0 * random.unit();
-            let mut maximum = || {
-                let exponent = random.below(17) as i32;
-                (min * random.octave(exponent)).min(GREATEST_ERLE)
-            };
-            [min, maximum(), maximum()]
-        }
-    };
+    let limits = draw_limits(random);
     let channels = 1 + random.below(4) as usize;
-    start(settings, random.below(3) != 0, channels)
-}
-
-/// A start that is turned away, a call with none standing, and the start again.
-fn refused_start(random: &mut Random, walk: &mut Walk, start: &Start) {
-    let mut refused = *start;
-    match random.below(4) {
-        0 => refused.channels = random.one_of(&[0, 5, u32::MAX]),
-        1 => refused.max_l = random.one_of(&[f32::NAN, start.min.next_down()]),
-        2 => refused.max_h = random.one_of(&[f32::INFINITY, start.min.next_down()]),
-        _ => refused.min = random.one_of(&[f32::NAN, 1.0_f32.next_down(), -1.0]),
-    }
-    walk.start(&refused);
-    walk.update(&quiet(start.channels as usize));
-    walk.start(start);
+    start(limits, random.below(3) != 0, channels)
 }
 
 /// How a stretch's renders are made.

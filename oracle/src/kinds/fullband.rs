@@ -1,0 +1,113 @@
+//! Kinds 0150 to 0153: the fullband estimator.
+
+use super::part::{Part, Settings};
+use crate::api::config::EchoCanceller3Config;
+use crate::audio_processing::aec3::fullband_erle_estimator::{peek_channel, FullBandErleEstimator};
+use crate::judge::BANDS;
+use crate::lines::{fields, Estimate, Hex, Lines};
+
+/// Decibels in a unit of log2, by document 01; the published Rust has no such
+/// figure.
+const DECIBELS_PER_LOG2: f32 = 3.0;
+
+pub type FullBand = FullBandErleEstimator;
+
+impl Part for FullBand {
+    const NAME: &'static str = "fullband";
+    const START: u16 = 0x0150;
+    type Start = Start;
+
+    fn new(start: &Start) -> Self {
+        let mut config = EchoCanceller3Config::default();
+        config.erle.min = start.min;
+        config.erle.max_l = start.max_l;
+        config.erle.max_h = start.max_h;
+        config.erle.clamp_quality_estimate_to_zero = start.to_zero;
+        config.erle.clamp_quality_estimate_to_one = start.to_one;
+        FullBandErleEstimator::new(&config.erle, start.channels as usize)
+    }
+
+    fn channels(&self) -> usize {
+        self.get_linear_quality_estimates().len()
+    }
+
+    fn update(
+        &mut self,
+        render: &[f32; BANDS],
+        captures: &[[f32; BANDS]],
+        residuals: &[[f32; BANDS]],
+        converged: &[bool],
+    ) {
+        FullBandErleEstimator::update(self, render, captures, residuals, converged);
+    }
+
+    fn reset(&mut self) {
+        FullBandErleEstimator::reset(self);
+    }
+
+    fn figures(&self, lines: &mut Lines) {
+        let log2 = self.fullband_erle_log2();
+        let decibels = DECIBELS_PER_LOG2 * log2;
+        let qualities = self.get_linear_quality_estimates();
+        lines.push(format_args!(
+            "full {} {} {}",
+            Hex(log2),
+            Hex(decibels),
+            fields(qualities.iter().map(|&quality| Estimate(quality)))
+        ));
+        for c in 0..self.channels() {
+            let held = peek_channel(self, c);
+            lines.push(format_args!(
+                "fullstate {c} {} {} {} {} {} {} {} {} {}",
+                held.hold,
+                held.points,
+                Hex(held.figure),
+                Hex(held.capture_sum),
+                Hex(held.residual_sum),
+                Hex(held.greatest),
+                Hex(held.least),
+                Estimate(held.log2),
+                Hex(held.quality)
+            ));
+        }
+    }
+}
+
+/// The settings of a start.
+#[derive(Clone, Copy)]
+pub struct Start {
+    pub min: f32,
+    pub max_l: f32,
+    pub max_h: f32,
+    /// Whether a quality is clamped to zero, and to one.
+    pub to_zero: bool,
+    pub to_one: bool,
+    pub channels: u32,
+}
+
+impl Settings for Start {
+    const SWITCHES: usize = 2;
+
+    fn new([min, max_l, max_h]: [f32; 3], switches: u32, channels: u32) -> Self {
+        Self {
+            min,
+            max_l,
+            max_h,
+            to_zero: switches & 1 == 1,
+            to_one: switches >> 1 & 1 == 1,
+            channels,
+        }
+    }
+
+    fn limits(&self) -> [f32; 3] {
+        [self.min, self.max_l, self.max_h]
+    }
+
+    fn switches(&self) -> u32 {
+        self.to_zero as u32 | (self.to_one as u32) << 1
+    }
+
+    fn channels(&self) -> u32 {
+        self.channels
+    }
+}

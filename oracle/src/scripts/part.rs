@@ -1,0 +1,189 @@
+//! What the scripts of the parts of the ERLE estimator share.
+
+pub mod damaged;
+pub mod refused;
+pub mod starts;
+
+use super::random::Random;
+use super::spectra::Spectrum;
+use super::Script;
+use crate::judge::{BANDS, GREATEST_ERLE, GREATEST_VALUE};
+use crate::kinds::call::Call;
+use crate::kinds::part::{Part, Settings};
+
+/// The blocks that give a new ratio.
+pub const POINTS: usize = 6;
+
+/// One step above the least minimum.
+const ABOVE_ONE: f32 = 1.0_f32.next_up();
+
+/// Minimum, max_l and max_h at their limits, equal and apart.
+pub const SETTINGS: [[f32; 3]; 10] = [
+    [1.0, 4.0, 1.5],
+    [1.0, GREATEST_ERLE, GREATEST_ERLE],
+    [1.0, 1.0, 1.0],
+    [1.0, 1.0, GREATEST_ERLE],
+    [1.0, GREATEST_ERLE, 1.0],
+    [GREATEST_ERLE, GREATEST_ERLE, GREATEST_ERLE],
+    [ABOVE_ONE, ABOVE_ONE.next_up(), ABOVE_ONE],
+    [2.5, 8.0, 30.0],
+    [
+        GREATEST_ERLE.next_down(),
+        GREATEST_ERLE,
+        GREATEST_ERLE.next_down(),
+    ],
+    [3.0, 3.0, 7.0],
+];
+
+/// A script that grows beside the published estimator, so that a call can aim
+/// at the figures that it finds.
+pub struct Walk<P> {
+    pub script: Script,
+    pub estimator: Option<P>,
+}
+
+impl<P> Default for Walk<P> {
+    fn default() -> Self {
+        Self::behind(Script::default())
+    }
+}
+
+impl<P> Walk<P> {
+    /// Goes on behind what stands in a script, where none of the part stands.
+    pub fn behind(script: Script) -> Self {
+        Self {
+            script,
+            estimator: None,
+        }
+    }
+}
+
+impl<P: Part> Walk<P> {
+    pub fn started(start: &P::Start) -> Self {
+        let mut walk = Self::default();
+        walk.start(start);
+        walk
+    }
+
+    pub fn start(&mut self, start: &P::Start) {
+        self.script.start::<P>(start);
+        self.estimator = P::started(start).ok();
+    }
+
+    /// Adds a call; one that is turned away changes nothing.
+    pub fn update(&mut self, call: &Call) {
+        self.script.update::<P>(call);
+        self.run(1, call);
+    }
+
+    pub fn updates(&mut self, calls: &[Call]) {
+        calls.iter().for_each(|call| self.update(call));
+    }
+
+    /// Adds as many updates, each with its lines.
+    pub fn each(&mut self, times: usize, call: &Call) {
+        (0..times).for_each(|_| self.update(call));
+    }
+
+    /// Adds as many updates in one record, with the lines of the last.
+    pub fn repeat(&mut self, times: u32, call: &Call) {
+        self.script.repeat::<P>(times, call);
+        self.run(times, call);
+    }
+
+    pub fn reset(&mut self) {
+        self.script.reset::<P>();
+        if let Some(estimator) = &mut self.estimator {
+            estimator.reset();
+        }
+    }
+
+    fn run(&mut self, times: u32, call: &Call) {
+        if let Some(estimator) = &mut self.estimator {
+            estimator.repeat(times, call).ok();
+        }
+    }
+}
+
+/// A call of these channels.
+pub fn call(
+    flags: &[bool],
+    render: &Spectrum,
+    captures: &[Spectrum],
+    residuals: &[Spectrum],
+) -> Call {
+    Call {
+        channels: flags.len() as u32,
+        flags: flags.to_vec(),
+        render: render.to_vec(),
+        capture: captures.as_flattened().to_vec(),
+        residual: residuals.as_flattened().to_vec(),
+    }
+}
+
+/// A call with one value in all bands and channels.
+pub fn flat(flags: &[bool], render: f32, capture: f32, residual: f32) -> Call {
+    same(
+        flags,
+        &[render; BANDS],
+        &[capture; BANDS],
+        &[residual; BANDS],
+    )
+}
+
+/// A call whose channels have one capture and one residual.
+pub fn same(flags: &[bool], render: &Spectrum, capture: &Spectrum, residual: &Spectrum) -> Call {
+    let channels = flags.len();
+    call(
+        flags,
+        render,
+        &vec![*capture; channels],
+        &vec![*residual; channels],
+    )
+}
+
+/// A call with one value in all bands, all channels converged.
+pub fn converged(channels: usize, render: f32, capture: f32, residual: f32) -> Call {
+    flat(&vec![true; channels], render, capture, residual)
+}
+
+/// A call in which no channel is converged.
+pub fn quiet(channels: usize) -> Call {
+    flat(&vec![false; channels], 0.0, 0.0, 0.0)
+}
+
+/// A converged call whose ratio is infinite.
+pub fn infinite(channels: usize, render: f32) -> Call {
+    converged(channels, render, GREATEST_VALUE, f32::from_bits(1))
+}
+
+/// Minimum, max_l and max_h that are accepted.
+pub fn draw_limits(random: &mut Random) -> [f32; 3] {
+    match random.below(2) {
+        0 => random.one_of(&SETTINGS),
+        _ => {
+            let min = 1.0 + 4.0 * random.unit();
+            let mut maximum = || {
+                let exponent = random.below(17) as i32;
+                (min * random.octave(exponent)).min(GREATEST_ERLE)
+            };
+            [min, maximum(), maximum()]
+        }
+    }
+}
+
+/// A start that is turned away, a call with none standing, and the start again.
+pub fn refused_start<P: Part>(random: &mut Random, walk: &mut Walk<P>, start: &P::Start) {
+    let mut channels = start.channels();
+    let [mut min, mut max_l, mut max_h] = start.limits();
+    match random.below(4) {
+        0 => channels = random.one_of(&[0, 5, u32::MAX]),
+        1 => max_l = random.one_of(&[f32::NAN, min.next_down()]),
+        2 => max_h = random.one_of(&[f32::INFINITY, min.next_down()]),
+        _ => min = random.one_of(&[f32::NAN, 1.0_f32.next_down(), -1.0]),
+    }
+    let refused = P::Start::new([min, max_l, max_h], start.switches(), channels);
+    walk.start(&refused);
+    walk.update(&quiet(start.channels() as usize));
+    walk.start(start);
+}
