@@ -1,16 +1,17 @@
--- What the judging of settings and of an update tells.
+-- What the judging of settings and of an update tells, and what a run keeps.
 use mathlib.Core.Path.{_≡_}
-use mathlib.Core.Bool.{Bool, true}
-use mathlib.Core.List.{List}
+use mathlib.Core.Bool.{Bool, true, false}
+use mathlib.Core.List.{List, [], _∷_}
 use Prim.Native.Nat.{ℕ, _*_, _≤_}
+use native.Mathlib.Omega.{arith}
 use borrow.Author.Tests.{eqb-true}
 use lib.Dec.{eqb}
 use lib.Ieee.{Float}
 use lib.ListN.{length}
 use Rattle.aec3_common.specs.Binary32.{valuesOk}
-use Rattle.aec3_common.specs.Refusal.{unless, accepted, badChannelCount}
+use Rattle.aec3_common.specs.Refusal.{unless, accepted, badChannelCount, badState}
 use Rattle.aec3_common.specs.Settings.{maxCaptureChannels, limitsOk, captureChannelsOk, limitsAndChannelsRefusal}
-use Rattle.aec3_common.specs.Calls.{lengthsOk, valuesInRange, callRefusal}
+use Rattle.aec3_common.specs.Calls.{Call, runBy, lengthsOk, valuesInRange, callRefusal}
 use Rattle.aec3_common.proofs.Choices.{passed, later-passed, each-of-three, each-of-four}
 use Rattle.aec3_common.proofs.Ranges.{from-lo, to-hi}
 
@@ -67,3 +68,25 @@ update-ok ok n channels converged render capture residual e =
       captureOk = captureOk;
       residualOk = residualOk;
     }
+
+-- an update of a state that number 20 lets pass is not refused under it
+pub update-not-20 :
+    (n channels : ℕ) (converged : List Bool) (render capture residual : List Float)
+    → callRefusal true n channels converged render capture residual ≡ badState → ⊥
+unfolding callRefusal
+update-not-20 n channels converged render capture residual =
+    go (eqb channels n) (lengthsOk channels converged render capture residual) (valuesInRange render capture residual)
+  where
+    go : (a b c : Bool) → unless a 21 (unless b 5 (unless c 6 0)) ≡ 20 → ⊥
+    go true true true e = omega arith
+    go true true false e = omega arith
+    go true false c e = omega arith
+    go false b c e = omega arith
+
+-- what every step keeps, a run keeps
+pub run-keeps :
+    {S : Type 0} (P : S → Type 0) (step : S → Call → S) → ((s : S) (c : Call) → P s → P (step s c))
+    → (calls : List Call) (s : S) → P s → P (runBy step s calls)
+unfolding runBy
+run-keeps P step keeps [] s p = p
+run-keeps P step keeps (c ∷ cs) s p = run-keeps P step keeps cs (step s c) (keeps s c p)

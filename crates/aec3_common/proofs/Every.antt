@@ -6,8 +6,8 @@ use Prim.Native.Nat.{ℕ, zero, suc, _+_, _≤_, _<_}
 use native.Mathlib.Nat.{le-of-suc-le-suc, not-suc-le-zero}
 use native.Mathlib.Numerals.{add-one}
 use native.Mathlib.Omega.{arith}
-use lib.ListN.{length, getD, take, drop}
-use lib.Seq.{take-all}
+use lib.ListN.{length, getD, take, drop, length-take}
+use lib.Seq.{take-all, getD-take}
 use Rattle.aec3_common.specs.Lists.{every}
 use Rattle.aec3_common.proofs.Choices.{and-left, and-right, and-true, and-assoc}
 
@@ -38,6 +38,14 @@ unfolding every
 every-drop p zero xs e = e
 every-drop p (suc n) [] e = e
 every-drop p (suc n) (x ∷ xs) e = every-drop p n xs (and-right (p x) (every p xs) e)
+
+-- where each of the first n entries passes, every one of them does
+pub every-first :
+    {A : Type 0} (p : A → Bool) (n : ℕ) (xs : List A) (d : A)
+    → ((k : ℕ) → k < n → p (getD xs k d) ≡ true) → every p (take n xs) ≡ true
+every-first p n xs d each =
+    every-by p (take n xs) d
+    (λ k h. let below : k < n = omega (arith, length-take n xs) in rw (getD-take n xs k d below) (each k below))
 
 -- one entry more
 every-more :

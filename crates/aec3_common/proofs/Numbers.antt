@@ -7,21 +7,22 @@ use native.Mathlib.Nat.{le-trans, le-of-eq, le-of-lt, lt-of-lt-of-le, sub-le, ad
 use native.Mathlib.Omega.{arith}
 use borrow.Author.Tests.{ltb-true, le-ltb}
 use lib.Dec.{T, ltb, eqb, eqb→eq, ltb→lt, eqb·suc-zero, lit<, lit≤}
-use lib.IntN.{ℤ, pos}
-use lib.Ieee.{Float, nan, inf, fin, Format, binary32, up, down, round, sum, add, sub, mul, div, lt, le, isNan, ofBits}
+use lib.IntN.{ℤ, pos, negsuc}
+use lib.Ieee.{Float, nan, inf, fin, Format, binary32, up, down, round, sum, add, sub, mul, div, lt, le, isNan, ofBits, toBits, ofInt}
 use lib.Ieee.Back.{round-whole}
 use lib.Ieee.Bits.{is-true}
 use lib.Ieee.Exact.{HasValue, round-exact, units-val}
 use lib.Ieee.Fits.{up-pos, down-pos, and-l, round-is}
 use lib.Ieee.Order.{kept, round-mono, le-of-values}
 use lib.Ieee.Order.{drop as dropped}
-use lib.Ieee.Positive.{positive, le→cross, through, above, above-of-le}
+use lib.Ieee.Positive.{positive, le→cross, through}
 use lib.Ieee.Scale.{grid, round-under}
 use lib.Ieee.Scale.{finite as isFinite}
 use lib.ListN.{length}
 use lib.Pow.{pow-pos}
 use Rattle.aec3_common.specs.Binary32.{zero32, greatestValue, greatestSum, within, valuesOk, moved}
 use Rattle.aec3_common.specs.Lists.{every}
+use Rattle.aec3_common.specs.Log2.{over, approxLog2}
 use Rattle.aec3_common.specs.Settings.{greatestErle}
 use Rattle.aec3_common.specs.Spectra.{sumFrom}
 use Rattle.aec3_common.proofs.Choices.{and-left, and-right}
@@ -269,3 +270,20 @@ moved-number k g (fin false m e) p q (finite n d) less =
     (times-number k g change
     (sum-number binary32 false (n * up d * down e) true (m * up e * down d) (down d * down e))
     (λ z. less-finite n d m e (less z) few))
+
+-- ---- log2
+
+-- what has a plus sign, less a finite number
+less-number : {x : Float} → Signed false x → (n : ℕ) (d : ℤ) → T (number (sub binary32 x (fin false n d)))
+unfolding sub isNan
+less-number infinite n d = tt
+less-number (finite m e) n d = sum-number binary32 false (m * up e * down d) true (n * up d * down e) (down e * down d)
+
+-- Log2 is a number, whatever the bits that it is taken of.
+pub log2-number : (x : Float) → T (number (approxLog2 x))
+unfolding approxLog2 ofInt mul
+log2-number x = less-number (scaled (round-signed binary32 false (toBits binary32 x) 1)) 16638633 (negsuc 16)
+  where
+    scaled : {y : Float} → Signed false y → Signed false (mul binary32 y (over 1 23))
+    scaled infinite = infinite
+    scaled (finite m e) = round-signed binary32 false (m * up e * 1) (down e * 2 ^ 23)

@@ -6,7 +6,7 @@ use Prim.Native.Nat.{ℕ, zero, suc, _+_, _≤_, _<_}
 use native.Mathlib.Nat.{le-of-suc-le-suc, not-suc-le-zero, le-refl}
 use native.Mathlib.Omega.{arith}
 use borrow.Author.Count.{below-more}
-use borrow.Author.Tests.{ltb-true, ltb-false}
+use borrow.Author.Tests.{ltb-true, ltb-false, lt-ltb}
 use lib.ListN.{length, length-map, getD, set, length-set}
 use lib.Seq.{ext-getD, getD-set-same, getD-set-other}
 use lib.Dec.{ltb}
@@ -24,6 +24,12 @@ unfolding tab
 getD-tab zero f k d h = absurd (not-suc-le-zero h)
 getD-tab (suc n) f zero d h = refl
 getD-tab (suc n) f (suc k) d h = getD-tab n (λ j. f (suc j)) k d (le-of-suc-le-suc h)
+
+-- one of the first m entries, where only those come from f
+pub getD-tab-first :
+    {A : Type 0} (n m : ℕ) (f g : ℕ → A) (k : ℕ) (d : A)
+    → m ≤ n → k < m → getD (tab n (λ j. cond (ltb j m) (f j) (g j))) k d ≡ f k
+getD-tab-first n m f g k d few h = getD-tab n (λ j. cond (ltb j m) (f j) (g j)) k d (omega arith) ∙ rw (lt-ltb k m h)
 
 -- a list of n entries whose k-th is f k is tab n f
 pub tab-is :

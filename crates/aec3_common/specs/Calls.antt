@@ -1,12 +1,26 @@
--- Updates of an ERLE estimator: which of them are turned away.
+-- Calls of an ERLE estimator: lists of them, and which updates are turned away.
 use mathlib.Core.Bool.{Bool, _&&_}
-use mathlib.Core.List.{List}
+use mathlib.Core.List.{List, [], _∷_}
 use Prim.Native.Nat.{ℕ, _*_}
 use lib.Dec.{eqb}
 use lib.Ieee.{Float}
 use lib.ListN.{length}
 use Rattle.aec3_common.specs.Binary32.{valuesOk}
 use Rattle.aec3_common.specs.Refusal.{unless, accepted, badLength, badValue, badState, otherChannelCount}
+
+-- ---- lists of calls
+
+-- a call, accepted or refused: an update with its channel count, flags, renders, captures and residuals; or a reset
+pub data Call : Type 0 where
+  update : ℕ → List Bool → List Float → List Float → List Float → Call
+  reset : Call
+
+-- each call takes up the state that the last one left
+unfoldable pub runBy : {S : Type 0} → (S → Call → S) → S → List Call → S
+runBy step s [] = s
+runBy step s (c ∷ cs) = runBy step (step s c) cs
+
+-- ---- updates turned away
 
 -- one flag and 65 captures and residuals for each channel, 65 renders
 abbrev pub lengthsOk : ℕ → List Bool → List Float → List Float → List Float → Bool

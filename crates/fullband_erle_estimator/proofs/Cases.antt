@@ -1,9 +1,8 @@
 -- The claim about cases, case by case.
-use mathlib.Core.Path.{_≡_, refl, sym}
-use mathlib.Core.Bool.{Bool, true, false, cond}
-use mathlib.Core.List.{List, [], _∷_}
+use mathlib.Core.Path.{refl}
+use mathlib.Core.Bool.{Bool, true, false}
 use Prim.Native.Nat.{ℕ, zero, suc}
-use lib.Dec.{eqb, eqb·suc-zero}
+use lib.Dec.{eqb·suc-zero}
 use lib.Ieee.{Float}
 use Rattle.fullband_erle_estimator.specs.Cases.{FigureReadBack, OptionalReadBack, CasesReadBack}
 

@@ -1,16 +1,16 @@
 -- What the judging of a state tells, and that log2 is asked of positive numbers alone.
-use mathlib.Core.Path.{_≡_, refl, sym, ap, subst, _∙_}
+use mathlib.Core.Path.{_≡_, subst}
 use mathlib.Core.Bool.{Bool, true, false, _&&_}
 use mathlib.Core.List.{List}
 use Prim.Native.Nat.{ℕ, _+_, _*_, _^_, _≤_, _<_}
 use native.Mathlib.Nat.{add-mul}
 use native.Mathlib.Omega.{arith}
 use borrow.Author.Tests.{eqb-true, ltb-true}
-use lib.Dec.{T, ltb, eqb, lit<, lit≤}
+use lib.Dec.{T, ltb, eqb}
 use lib.IntN.{pos}
 use lib.Ieee.{Float, nan, inf, fin, binary32, ofBits, add, lt, le, fits}
 use lib.Ieee.Positive.{positive, above, above-of-le}
-use lib.ListN.{length, getD, take}
+use lib.ListN.{length, take}
 use lib.Seq.{getD-take, length-take-le}
 use Rattle.aec3_common.specs.Binary32.{zero32, one32, greatestSum, within, valuesOk}
 use Rattle.aec3_common.specs.Lists.{every}

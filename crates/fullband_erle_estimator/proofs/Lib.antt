@@ -4,3 +4,4 @@ pub mod Least
 pub mod Updates
 pub mod Constants
 pub mod Cases
+pub mod Runs

@@ -1,11 +1,9 @@
 -- What the inner functions give of one point and one block, as the definition says it.
-use mathlib.Core.Path.{_≡_, refl, sym, ap, _∙_}
+use mathlib.Core.Path.{_≡_, sym, ap, _∙_}
 use mathlib.Core.Bool.{Bool, true, false, cond, _&&_}
-use Prim.Native.Nat.{ℕ, suc, _+_}
+use Prim.Native.Nat.{ℕ, _+_}
 use native.Mathlib.Numerals.{add-one}
-use borrow.Author.Tests.{eq-eqb, ne-eqb}
 use lib.Dec.{eqb}
-use lib.IntN.{ℤ, pos}
 use lib.Ieee.{Float, binary32, div, lt}
 use Rattle.aec3_common.specs.Binary32.{zero32, larger, moved}
 use Rattle.aec3_common.specs.Counts.{fallen, isZero}

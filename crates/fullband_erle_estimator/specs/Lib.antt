@@ -3,4 +3,5 @@ pub mod Channel
 pub mod FullBand
 pub mod Constants
 pub mod Cases
+pub mod Runs
 pub mod Steps

@@ -1,26 +1,26 @@
 -- No state of a run is turned away under 20: after n of at most 6 points a sum is at most n times 2^100.
 use mathlib.Core.Path.{_≡_}
-use mathlib.Core.Bool.{Bool, true, false}
+use mathlib.Core.Bool.{true}
 use mathlib.Core.List.{List}
 use Prim.Native.Nat.{ℕ, _*_, _^_, _≤_, _<_}
 use native.Mathlib.Nat.{le-trans, mul-le-mul-right}
 use native.Mathlib.Omega.{arith}
 use borrow.Author.Tests.{le-leb}
-use lib.Dec.{eqb, lit≤}
+use lib.Dec.{lit≤}
 use lib.Ieee.{Float, nan}
-use lib.ListN.{length, getD, take, length-take}
-use lib.Seq.{getD-take}
+use lib.ListN.{length, getD}
 use Rattle.aec3_common.specs.Binary32.{greatestSum, within, sumsOk}
-use Rattle.aec3_common.specs.Calls.{lengthsOk, valuesInRange, callRefusal}
-use Rattle.aec3_common.specs.Refusal.{unless, accepted}
-use Rattle.aec3_common.proofs.Every.{every-by}
+use Rattle.aec3_common.specs.Calls.{Call, update, reset}
+use Rattle.aec3_common.specs.Refusal.{accepted, badState}
+use Rattle.aec3_common.proofs.Calls.{update-not-20}
+use Rattle.aec3_common.proofs.Every.{every-by, every-first}
 use Rattle.aec3_common.proofs.Numbers.{UpTo, up-to-within}
 use Rattle.subband_erle_estimator.specs.declared.settings.SubbandSettings.{SubbandSettings}
 use Rattle.subband_erle_estimator.specs.declared.channel.SubbandChannel.{SubbandChannel}
 use Rattle.subband_erle_estimator.specs.declared.SubbandErleEstimator.{SubbandErleEstimator}
 use Rattle.subband_erle_estimator.specs.Channel.{allPoints}
 use Rattle.subband_erle_estimator.specs.Subband.{settingsRefusal, channelOk, stateOk, updateRefusal, resetRefusal, startAnswer, resetAnswer, updateAnswer, noChannel}
-use Rattle.subband_erle_estimator.specs.Resting.{Call, update, reset, answer, run}
+use Rattle.subband_erle_estimator.specs.Resting.{answer, run}
 use Rattle.subband_erle_estimator.specs.Accepted.{NeverBadState}
 use Rattle.subband_erle_estimator.proofs.Channels.{ChannelKept}
 use Rattle.subband_erle_estimator.proofs.Calls.{settings-ok, Kept, start-answer-kept, run-kept}
@@ -44,24 +44,14 @@ channel-ok s c kept =
 state-ok : (g : SubbandSettings) (s : SubbandErleEstimator) → settingsRefusal g ≡ accepted → Kept g s → stateOk s ≡ true
 unfolding stateOk
 state-ok g s e kept =
-    let n = g .«num_capture_channels» in
     rw (kept .settings, e)
-    (every-by channelOk (take n (s .channels)) noChannel
-    (λ ch h.
-    let below : ch < n = omega (arith, length-take n (s .channels)) in
-    rw (getD-take n (s .channels) ch noChannel below) (channel-ok g (getD (s .channels) ch noChannel) (kept .channels ch below))))
+    (every-first channelOk (g .«num_capture_channels») (s .channels) noChannel
+    (λ ch h. channel-ok g (getD (s .channels) ch noChannel) (kept .channels ch h)))
 
-answer-not-20 : (s : SubbandErleEstimator) (c : Call) → stateOk s ≡ true → answer s c .refused ≡ 20 → ⊥
-unfolding answer updateAnswer updateRefusal callRefusal resetAnswer resetRefusal
+answer-not-20 : (s : SubbandErleEstimator) (c : Call) → stateOk s ≡ true → answer s c .refused ≡ badState → ⊥
+unfolding answer updateAnswer updateRefusal resetAnswer resetRefusal
 answer-not-20 s (update channels converged render capture residual) ok e =
-    go (eqb channels (s .settings .«num_capture_channels»)) (lengthsOk channels converged render capture residual)
-    (valuesInRange render capture residual) (rw ok at e)
-  where
-    go : (a b c : Bool) → unless a 21 (unless b 5 (unless c 6 0)) ≡ 20 → ⊥
-    go true true true e = omega arith
-    go true true false e = omega arith
-    go true false c e = omega arith
-    go false b c e = omega arith
+    update-not-20 (s .settings .«num_capture_channels») channels converged render capture residual (rw ok at e)
 answer-not-20 s reset ok e = let never : _≡_ {A = ℕ} 0 20 = rw ok at e in omega arith
 
 pub never-bad-state : NeverBadState

@@ -1,31 +1,32 @@
 -- What a state keeps over any list of calls.
-use mathlib.Core.Path.{_≡_, refl, sym, _∙_, subst}
-use mathlib.Core.Bool.{Bool, true, cond, _&&_}
-use mathlib.Core.List.{List, [], _∷_}
+use mathlib.Core.Path.{_≡_, refl, sym, subst}
+use mathlib.Core.Bool.{Bool, true, _&&_}
+use mathlib.Core.List.{List}
 use Prim.Native.Nat.{ℕ, _+_, _*_, _^_, _≤_, _<_}
 use native.Mathlib.Omega.{arith}
-use borrow.Author.Tests.{eqb-true, lt-ltb}
+use borrow.Author.Tests.{eqb-true}
 use lib.Dec.{ltb, eqb}
 use lib.Ieee.{Float, nan, le}
 use lib.ListN.{length, getD}
 use lib.Seq.{getD-take, getD-drop}
 use Rattle.aec3_common.specs.Binary32.{one32, greatestValue, within, valuesOk}
+use Rattle.aec3_common.specs.Calls.{Call, update, reset}
 use Rattle.aec3_common.specs.Refusal.{accepted}
 use Rattle.aec3_common.specs.Settings.{greatestErle}
 use Rattle.aec3_common.specs.Spectra.{part}
-use Rattle.aec3_common.proofs.Calls.{limits-passed, few-channels, update-ok}
+use Rattle.aec3_common.proofs.Calls.{limits-passed, few-channels, update-ok, run-keeps}
 use Rattle.aec3_common.proofs.Choices.{and-left, and-right, each-of-four, cond-has}
 use Rattle.aec3_common.proofs.Every.{every-at}
 use Rattle.aec3_common.proofs.Numbers.{Value, value-within}
 use Rattle.aec3_common.proofs.Rounding.{holds}
-use Rattle.aec3_common.proofs.Tables.{getD-tab}
+use Rattle.aec3_common.proofs.Tables.{getD-tab, getD-tab-first}
 use Rattle.filter_sections.specs.Subbands.{maxErle}
 use Rattle.erle_bands.proofs.Range.{InOrder}
 use Rattle.subband_erle_estimator.specs.declared.settings.SubbandSettings.{SubbandSettings}
 use Rattle.subband_erle_estimator.specs.declared.SubbandErleEstimator.{SubbandErleEstimator}
 use Rattle.subband_erle_estimator.specs.Channel.{fresh, channelAfter}
 use Rattle.subband_erle_estimator.specs.Subband.{settingsRefusal, stateOk, updateRefusal, resetRefusal, started, startAnswer, resetAnswer, noChannel, channelAt, blockOf, updated, updateAnswer}
-use Rattle.subband_erle_estimator.specs.Resting.{Call, update, reset, answer, run, InBinary32}
+use Rattle.subband_erle_estimator.specs.Resting.{answer, run, InBinary32}
 use Rattle.subband_erle_estimator.proofs.Channels.{AllInOrder, ChannelKept, fresh-kept, after-kept}
 
 -- ---- settings
@@ -84,13 +85,9 @@ module _ (g : SubbandSettings) (ok : SettingsOk g) where
       ≡ channelAfter g (blockOf converged render capture residual ch) (channelAt s ch)
   unfolding updated
   updated-channel s converged render capture residual kept ch h =
-      getD-tab 4
-      (λ j.
-      cond (ltb j (s .settings .«num_capture_channels»))
-      (channelAfter (s .settings) (blockOf converged render capture residual j) (channelAt s j))
-      (channelAt s j))
-      ch noChannel (omega (arith, ok .channels))
-      ∙ rw (kept .settings, lt-ltb ch (g .«num_capture_channels») h)
+      rw (kept .settings)
+      (getD-tab-first 4 (g .«num_capture_channels») (λ j. channelAfter g (blockOf converged render capture residual j) (channelAt s j)) (channelAt s) ch
+      noChannel (ok .channels) h)
 
 -- ---- an accepted update
 
@@ -132,8 +129,7 @@ module _ (g : SubbandSettings) (ok : SettingsOk g) where
 
   pub run-kept : (calls : List Call) (s : SubbandErleEstimator) → Kept g s → Kept g (run s calls)
   unfolding run
-  run-kept [] s kept = kept
-  run-kept (c ∷ cs) s kept = run-kept cs (answer s c .state) (answer-kept s c kept)
+  run-kept = run-keeps (Kept g) (λ s c. answer s c .state) answer-kept
 
 -- an accepted start leaves the state that its settings give
 pub start-answer-kept : (g : SubbandSettings) → SettingsOk g → startAnswer g .refused ≡ accepted → Kept g (startAnswer g .state)

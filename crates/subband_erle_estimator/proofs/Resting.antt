@@ -9,6 +9,7 @@ use lib.Dec.{eqb}
 use lib.Ieee.{Float, le}
 use lib.Ieee.Bits.{is-true}
 use lib.ListN.{length, getD, length-drop, take-append-drop}
+use Rattle.aec3_common.specs.Calls.{Call, update, reset, runBy}
 use Rattle.aec3_common.specs.Lists.{every}
 use Rattle.aec3_common.specs.Refusal.{accepted}
 use Rattle.aec3_common.proofs.Choices.{and-left, and-right}
@@ -17,7 +18,7 @@ use Rattle.erle_bands.proofs.Rest.{resting-start}
 use Rattle.subband_erle_estimator.specs.declared.settings.SubbandSettings.{SubbandSettings}
 use Rattle.subband_erle_estimator.specs.declared.SubbandErleEstimator.{SubbandErleEstimator}
 use Rattle.subband_erle_estimator.specs.Subband.{startAnswer, resetAnswer, updateAnswer, channelAt, blockOf}
-use Rattle.subband_erle_estimator.specs.Resting.{Call, update, reset, answer, run, acceptedOf, unconverged, lastOf, beforeLast, numberFrom, FiguresInRangeAndAtRest}
+use Rattle.subband_erle_estimator.specs.Resting.{answer, run, acceptedOf, unconverged, lastOf, beforeLast, numberFrom, FiguresInRangeAndAtRest}
 use Rattle.subband_erle_estimator.proofs.Quiet.{ChannelResting, after-resting, rest-compensated, rest-waits}
 use Rattle.subband_erle_estimator.proofs.Calls.{SettingsOk, settings-ok, Kept, start-answer-kept, run-kept, updated-channel, updated-kept}
 
@@ -37,7 +38,7 @@ refused-stays s reset e = rw e
 
 -- the accepted calls alone lead where the list leads
 accepted-chain : (cs : List Call) (s : SubbandErleEstimator) → Chain s (acceptedOf s cs) (run s cs)
-unfolding acceptedOf run
+unfolding acceptedOf run runBy
 accepted-chain [] s = ended
 accepted-chain (c ∷ cs) s = go (eqb (answer s c .refused) accepted) refl (accepted-chain cs (answer s c .state))
   where
@@ -53,7 +54,7 @@ accepted-chain (c ∷ cs) s = go (eqb (answer s c .refused) accepted) refl (acce
 
 -- the later calls of a chain are a chain, from where the earlier ones lead
 later-chain : (a b : List Call) (s t : SubbandErleEstimator) → Chain s (a ++ b) t → Chain (run s a) b t
-unfolding run
+unfolding run runBy
 later-chain [] b s t h = h
 later-chain (c ∷ a) b s t (taken e h) = later-chain a b (answer s c .state) t h
 

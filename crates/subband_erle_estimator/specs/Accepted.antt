@@ -1,10 +1,11 @@
 -- A state that a start, an update or a reset has left is taken up again.
 use mathlib.Core.Path.{_≡_}
 use mathlib.Core.List.{List}
+use Rattle.aec3_common.specs.Calls.{Call}
 use Rattle.aec3_common.specs.Refusal.{accepted, badState}
 use Rattle.subband_erle_estimator.specs.declared.settings.SubbandSettings.{SubbandSettings}
 use Rattle.subband_erle_estimator.specs.Subband.{startAnswer}
-use Rattle.subband_erle_estimator.specs.Resting.{Call, answer, run, InBinary32}
+use Rattle.subband_erle_estimator.specs.Resting.{answer, run, InBinary32}
 
 -- Claim: after an accepted start and any list of updates and resets, refused calls among them, no call is refused under 20.
 unfoldable pub NeverBadState : Type 0

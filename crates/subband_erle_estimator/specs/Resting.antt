@@ -6,6 +6,7 @@ use Prim.Native.Nat.{ℕ, _-_, _≤_, _<_}
 use lib.Dec.{T, eqb}
 use lib.Ieee.{Float, nan, binary32, le, fits}
 use lib.ListN.{length, getD, take, drop}
+use Rattle.aec3_common.specs.Calls.{Call, update, reset, runBy}
 use Rattle.aec3_common.specs.Lists.{every}
 use Rattle.aec3_common.specs.Refusal.{accepted}
 use Rattle.aec3_common.specs.Settings.{greatestErle}
@@ -17,19 +18,13 @@ use Rattle.subband_erle_estimator.specs.Subband.{startAnswer, updateAnsw
 
 -- ---- lists of calls
 
--- a call, accepted or refused: an update with its channel count, flags, renders, captures and residuals; or a reset
-pub data Call : Type 0 where
-  update : ℕ → List Bool → List Float → List Float → List Float → Call
-  reset : Call
-
 unfoldable pub answer : SubbandErleEstimator → Call → SubbandAnswer
 answer s (update channels converged render capture residual) = updateAnswer s channels converged render capture residual
 answer s reset = resetAnswer s
 
 -- each call takes up the state that the last one left; a refused one passes on what it got
 unfoldable pub run : SubbandErleEstimator → List Call → SubbandErleEstimator
-run s [] = s
-run s (c ∷ cs) = run (answer s c .state) cs
+run s calls = runBy (λ t c. answer t c .state) s calls
 
 -- the calls of the list that are accepted, in their order
 unfoldable pub acceptedOf : SubbandErleEstimator → List Call → List Call

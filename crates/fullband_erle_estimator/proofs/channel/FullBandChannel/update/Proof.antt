@@ -1,5 +1,5 @@
 use borrow.Author.Needs.{needs}
-use mathlib.Core.Path.{_≡_, ap, _∙_}
+use mathlib.Core.Path.{ap, _∙_}
 use native.Mathlib.Nat.{le-of-eq}
 use Rattle.aec3_common.specs.Spectra.{sum}
 use Rattle.fullband_erle_estimator.specs.Channel.{oneBlockLess}

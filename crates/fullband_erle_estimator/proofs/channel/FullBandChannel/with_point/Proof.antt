@@ -1,5 +1,5 @@
 use borrow.Author.Needs.{needs}
-use mathlib.Core.Path.{_≡_, sym, _∙_}
+use mathlib.Core.Path.{sym, _∙_}
 use lib.Ieee.{ofBits}
 use Rattle.aec3_common.proofs.Holds.{read-back}
 use Rattle.fullband_erle_estimator.proofs.Points.{with-number, with-none}
