@@ -15,9 +15,9 @@ impl fmt::Display for Hex {
 }
 
 /// A binary32 number, or `absent`.
-pub struct Estimate(pub Option<f32>);
+pub struct Optional(pub Option<f32>);
 
-impl fmt::Display for Estimate {
+impl fmt::Display for Optional {
     fn fmt(&self, f: &mut fmt::Formatter<'_>) -> fmt::Result {
         match self.0 {
             Some(number) => Hex(number).fmt(f),

@@ -4,7 +4,7 @@ use super::part::{Part, Settings};
 use crate::api::config::EchoCanceller3Config;
 use crate::audio_processing::aec3::fullband_erle_estimator::{peek_channel, FullBandErleEstimator};
 use crate::judge::BANDS;
-use crate::lines::{fields, Estimate, Hex, Lines};
+use crate::lines::{fields, Hex, Lines, Optional};
 
 /// Decibels in a unit of log2, by document 01; the published Rust has no such
 /// figure.
@@ -53,7 +53,7 @@ impl Part for FullBand {
             "full {} {} {}",
             Hex(log2),
             Hex(decibels),
-            fields(qualities.iter().map(|&quality| Estimate(quality)))
+            fields(qualities.iter().map(|&quality| Optional(quality)))
         ));
         for c in 0..self.channels() {
             let held = peek_channel(self, c);
@@ -66,7 +66,7 @@ impl Part for FullBand {
                 Hex(held.residual_sum),
                 Hex(held.greatest),
                 Hex(held.least),
-                Estimate(held.log2),
+                Optional(held.log2),
                 Hex(held.quality)
             ));
         }

@@ -31,8 +31,8 @@ pub fn add(script: Script) -> Script {
     walk.script
 }
 
-/// The example's blocks, one without any residual at the sixth point, a ratio
-/// below the minimum, and one channel of two.
+/// The example's blocks, a sixth point without any residual and one without its
+/// own, ratios of zero and without end, and a last channel with the least figure.
 fn points(walk: &mut Walk) {
     walk.start(&example_start());
     walk.each(POINTS, &converged(1, LOUD, 3.0, 1.0));
@@ -42,8 +42,12 @@ fn points(walk: &mut Walk) {
     walk.repeat(SIX, &infinite(1, LOUD));
     walk.reset();
     walk.repeat(SIX, &infinite(1, LOUD));
-    walk.start(&start(SETTINGS[0], 0b11, 2));
-    walk.repeat(SIX, &flat(&[true, false], LOUD, 30.0, 1.0));
+    walk.repeat(5, &converged(1, LOUD, 9.0, 1.0));
+    walk.update(&converged(1, LOUD, 9.0, 0.0));
+    for flags in [&[true, false][..], &[true, true, true, false]] {
+        walk.start(&start(SETTINGS[0], 0b11, flags.len()));
+        walk.repeat(SIX, &flat(flags, LOUD, 30.0, 1.0));
+    }
 }
 
 /// A hold seen where something turns, points in flight when it ends, and one
