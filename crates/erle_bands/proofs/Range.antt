@@ -1,16 +1,14 @@
 -- The range that a band's streams keep, and the size that its sums keep.
-use mathlib.Core.Path.{_≡_, refl, sym, _∙_, subst}
+use mathlib.Core.Path.{_≡_, refl, sym, subst}
 use mathlib.Core.Bool.{Bool, true, false, cond, false≢true}
 use Prim.Native.Nat.{ℕ, zero, suc, _+_, _*_, _^_, _≤_, _<_}
-use native.Mathlib.Nat.{lt-of-lt-of-le, mul-one, mul-assoc, suc-mul, mul-lt-mul-of-pos-right}
+use native.Mathlib.Nat.{suc-mul}
 use native.Mathlib.Omega.{arith}
 use borrow.Author.Tests.{leb-true, le-leb}
-use lib.Dec.{T, lit<, lit≤}
+use lib.Dec.{T, lit≤}
 use lib.IntN.{ℤ, pos, negsuc, -ℤ-one}
-use lib.Pow.{pow-pos}
 use lib.Signed.{leZ}
 use lib.Ieee.{Float, nan, inf, fin, binary32, ofBits, mul, lt, le, fits}
-use lib.Ieee.Exact.{round-exact}
 use lib.Ieee.Fits.{add-fits, mul-fits}
 use lib.Ieee.Positive.{positive, above, above-of-le, between, le-trans-positive}
 use Rattle.aec3_common.specs.Binary32.{zero32, one32, larger, moved}
@@ -18,7 +16,7 @@ use Rattle.aec3_common.specs.Counts.{fallen}
 use Rattle.aec3_common.specs.Settings.{greatestErle}
 use Rattle.aec3_common.proofs.Choices.{cond-has}
 use Rattle.aec3_common.proofs.Fitting.{Between, level, clamped-between, times-at-most}
-use Rattle.aec3_common.proofs.Numbers.{number, UpTo, upTo, Value, Whole, no-sum, add-up-to, whole-multiple, ratio-plus, moved-number}
+use Rattle.aec3_common.proofs.Numbers.{number, UpTo, Value, Whole, no-sum, add-up-to, whole-multiple, ratio-plus, moved-number}
 use Rattle.aec3_common.proofs.Rounding.{Signed}
 use Rattle.erle_bands.specs.Band.{shareUp, shareDown, decayFactor, share, streamMoved, Core, emptied, added, hasRatio, ratio, learnt, Onset, onsetLearnt, decayed, oneBlockLess}
 

@@ -103,8 +103,8 @@ greatestWith value greatest = cond (lt greatest value) value (sub binary32 great
 abbrev pub leastWith : Float → Float → Float
 leastWith value least = cond (lt value least) value (add binary32 least extremeStep)
 
--- how far a value stands on the way from the least to the greatest, and a little beyond either end where an extreme has just
--- given way; 0 where the greatest is not above the least
+-- how far a value stands on the way from the least to the greatest: from 0 to 1, or outside where an extreme has just given
+-- way; 0 where the greatest is not above the least
 unfoldable pub newQuality : Float → Float → Float → Float
 newQuality least greatest value =
     cond (lt least greatest) (div binary32 (sub binary32 value least) (sub binary32 greatest least)) zero32
@@ -152,14 +152,16 @@ fresh = cleared firstGreatest firstLeast
 
 -- ---- the quality that is answered
 
--- The quality estimate, not below 0 where one switch is on, and not above 1 where the other is. Between zeros of two signs it
--- keeps the one it was given, and a NaN stays.
+-- not below 0 where the switch for it is on
 abbrev pub raisedQuality : Bool → Float → Float
 raisedQuality toZero quality = cond toZero (larger quality zero32) quality
 
+-- not above 1 where the switch for it is on
 abbrev pub loweredQuality : Bool → Float → Float
 loweredQuality toOne quality = cond toOne (smaller quality one32) quality
 
+-- The quality estimate within what the two switches ask. Between zeros of two signs it keeps the one it was given, and a NaN
+-- stays.
 unfoldable pub clampedQuality : Bool → Bool → Float → Float
 clampedQuality toZero toOne quality = loweredQuality toOne (raisedQuality toZero quality)
 

@@ -1,4 +1,4 @@
--- Lists of calls: the state that they leave is taken up again, and no figure is below the minimum.
+-- Lists of calls: the state that they leave is taken up again, and no figure is below log2 of (the minimum plus 0.001).
 use mathlib.Core.Path.{_≡_}
 use mathlib.Core.Bool.{true}
 use mathlib.Core.List.{List}
@@ -46,7 +46,7 @@ pub record NotBelowMinimum (settings : FullBandSettings) (s : FullBandErleEstima
   pub channels : (ch : ℕ) → ch < settings .«num_capture_channels» → le (minLog2 settings) (figureOf s ch) ≡ true
   pub least : le (minLog2 settings) (fullbandLog2 s) ≡ true
 
--- Claim: in the same runs no figure is below the minimum, and none is a NaN.
+-- Claim: in the same runs no figure is below log2 of (the minimum plus 0.001), and none is a NaN.
 unfoldable pub FiguresNotBelowMinimum : Type 0
 FiguresNotBelowMinimum =
     (settings : FullBandSettings) (calls : List Call)

@@ -44,7 +44,7 @@ fn least_with(value: f32, least: f32) -> f32
     if value < least { value } else { least + 0.0004 }
 }
 
-// How far a value stands between the extremes.
+// How far a value stands between the extremes, or outside them.
 fn new_quality(least: f32, greatest: f32, value: f32) -> f32
     ensures { λ r. ⌜ r ≡ newQuality least greatest value ⌝ }
 {

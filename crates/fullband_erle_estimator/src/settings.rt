@@ -40,7 +40,7 @@ impl FullBandSettings {
         limits_and_channels_refusal(self.min, self.max_l, self.max_h, self.num_capture_channels)
     }
 
-    // Log2 of the minimum plus 0.001.
+    // Log2 of (the minimum plus 0.001).
     pub fn min_erle_log2(self) -> f32
         requires { ⌜ lt zero32 (add binary32 (self .min) epsilon) ≡ true ⌝ }
         ensures { λ r. ⌜ r ≡ minLog2 self ⌝ }

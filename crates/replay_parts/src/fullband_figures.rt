@@ -20,7 +20,7 @@ fn put_optional(out: &mut [u8], at: usize, number: OptionalNumber) -> usize {
     }
 }
 
-// The number under which a reading is turned away. No state that stands is; a test program shows it all the same.
+// The number under which a reading is turned away. Never reached: a state that stands passes 20.
 fn put_turned_away(out: &mut [u8], at: usize, refused: u32) -> usize {
     let at = put_bytes(out, at, b" ");
     put_refused(out, at, refused)

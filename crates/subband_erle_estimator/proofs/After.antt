@@ -4,7 +4,7 @@ use mathlib.Core.Bool.{Bool, true, false, cond, _&&_}
 use mathlib.Core.List.{List}
 use Prim.Native.Nat.{ℕ, _<_}
 use lib.Dec.{ltb, eqb}
-use lib.IntN.{ℤ, pos}
+use lib.IntN.{pos}
 use lib.Ieee.{Float, nan, binary32, div, lt}
 use lib.ListN.{length, getD}
 use Rattle.aec3_common.specs.Binary32.{zero32}
@@ -16,7 +16,7 @@ use Rattle.aec3_common.proofs.Choices.{and-false}
 use Rattle.aec3_common.proofs.Tables.{tab-is, length-tab, getD-tab}
 use Rattle.filter_sections.specs.Subbands.{maxErle}
 use Rattle.erle_bands.specs.Band.{Core, ratio, learnt, Onset, onsetLearnt, oneBlockLess}
-use Rattle.erle_bands.specs.Steps.{sumWith, sumsWith, lowWith, lowsWith, ratiosOf, streamBy, streamsBy, waitBy, waitsBy, holdBy, holdsBy, holdLess, holdsLess, compensatedBeside, compensatedsBeside, waitBeside, waitsBeside}
+use Rattle.erle_bands.specs.Steps.{sumWith, sumsWith, lowWith, lowsWith, ratiosOf, streamBy, streamsBy, waitsBy, holdsBy, holdLess, holdsLess, compensatedBeside, compensatedsBeside, waitBeside, waitsBeside}
 use Rattle.erle_bands.proofs.Bands.{added-capture, added-residual, added-low, added-plain, added-uncapped, learnt-capture, learnt-residual, learnt-low, less-hold, less-compensated, less-waits, stream-plain, stream-uncapped, stream-compensated, wait-learnt, hold-learnt}
 use Rattle.subband_erle_estimator.specs.declared.settings.SubbandSettings.{SubbandSettings}
 use Rattle.subband_erle_estimator.specs.declared.channel.SubbandChannel.{SubbandChannel}

@@ -8,7 +8,6 @@ use lib.IntN.{ℤ}
 use lib.Ieee.{Float}
 use Rattle.aec3_common.specs.Settings.{greatestErle}
 use Rattle.aec3_common.specs.Spectra.{endsCopied}
-use Rattle.erle_bands.specs.declared.streams.Limits.{Limits}
 use Rattle.erle_bands.specs.Steps.{sumsWith, lowsWith, ratiosOf, streamsBy, holdsLess, compensatedsBeside, waitsBeside}
 use Rattle.subband_erle_estimator.specs.declared.settings.SubbandSettings.{SubbandSettings}
 use Rattle.subband_erle_estimator.specs.declared.channel.SubbandChannel.{SubbandChannel}

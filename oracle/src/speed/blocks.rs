@@ -21,8 +21,8 @@ pub struct Blocks {
 }
 
 impl Blocks {
-    /// Renders mostly above the threshold, and ratios on both sides of the
-    /// minimum and of the maxima.
+    /// Renders mostly above the threshold, and bands' ratios on both sides of
+    /// the minimum and of the maxima.
     pub fn new(channels: usize, flags: Flags) -> Self {
         let mut random = Random::new(31);
         let count = BLOCKS * channels;

@@ -1,5 +1,4 @@
 use borrow.Author.Needs.{needs}
-use mathlib.Core.Path.{_∙_, ap}
 use Rattle.aec3_common.specs.Lists.{tab}
 use Rattle.subband_erle_estimator.specs.Subband.{started}
 use Rattle.subband_erle_estimator.proofs.started.Statement.{statement}

@@ -1,5 +1,5 @@
-//! Walks of the log2 value about its extremes, which give way to each other:
-//! qualities far below 0 and far above 1, under every choice of the clamps.
+//! Walks of the log2 value about its extremes, which give way where no value is
+//! beyond them: qualities far below 0 and far above 1, under every choice of the clamps.
 
 use super::{exact_six, ratio_of, start, Walk, HOLD, SWITCHES};
 use crate::audio_processing::aec3::fullband_erle_estimator::{peek_channel, PeekedChannel};

@@ -9,7 +9,7 @@ use crate::scripts::random::Random;
 use crate::scripts::spectra::{any_power, power, Power, Spectrum, LOUD};
 use crate::scripts::Script;
 
-/// Blocks without a new figure after which the points in flight meet the end of
+/// Blocks without a new figure after which the points held meet the end of
 /// the hold: after six converged blocks it is 99.
 const GAPS: std::ops::RangeInclusive<u32> = 85..=102;
 

@@ -32,7 +32,7 @@ pub fn add(script: Script) -> Script {
 }
 
 /// The example's blocks, a sixth point without any residual and one without its
-/// own, ratios of zero and without end, and a last channel with the least figure.
+/// own, infinite ratios and ratios of zero, and a last channel with the least figure.
 fn points(walk: &mut Walk) {
     walk.start(&example_start());
     walk.each(POINTS, &converged(1, LOUD, 3.0, 1.0));
@@ -50,7 +50,7 @@ fn points(walk: &mut Walk) {
     }
 }
 
-/// A hold seen where something turns, points in flight when it ends, and one
+/// A hold seen where something turns, points held when it ends, and one
 /// that falls far below 0.
 fn holds(walk: &mut Walk) {
     walk.start(&example_start());

@@ -1,6 +1,6 @@
 use borrow.Author.Needs.{needs}
 use borrow.Author.Tests.{eq-eqb, ne-eqb}
-use mathlib.Core.Path.{_∙_, sym}
+use mathlib.Core.Path.{sym}
 use Rattle.subband_erle_estimator.specs.Subband.{startAnswer}
 use Rattle.subband_erle_estimator.proofs.SubbandErleEstimator.new.Statement.{statement}
 use Rattle.subband_erle_estimator.proofs.SubbandErleEstimator.new.Tie as tie

@@ -1,5 +1,5 @@
 use borrow.Author.Needs.{needs}
-use mathlib.Core.Path.{_≡_, _∙_, ap}
+use mathlib.Core.Path.{_≡_, _∙_}
 use lib.ListN.{length}
 use Rattle.subband_erle_estimator.proofs.Records.{learnt-on, learnt-off}
 use Rattle.subband_erle_estimator.proofs.channel.SubbandChannel.learnt.Statement.{statement}
