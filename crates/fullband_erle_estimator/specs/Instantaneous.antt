@@ -113,6 +113,7 @@ newQuality least greatest value =
 abbrev pub qualityWith : Float → Float → Float
 qualityWith new quality = cond (lt quality new) new (moved quality new qualityShare)
 
+-- a new log2 value moves the extremes, and then the quality estimate by the extremes as they are now
 unfoldable pub learnt : Float → ErleInstantaneous → ErleInstantaneous
 learnt value i =
     let greatest = greatestWith value (i .«max_erle_log2») in

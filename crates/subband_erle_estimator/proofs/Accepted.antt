@@ -19,7 +19,7 @@ use Rattle.subband_erle_estimator.specs.declared.settings.SubbandSetting
 use Rattle.subband_erle_estimator.specs.declared.channel.SubbandChannel.{SubbandChannel}
 use Rattle.subband_erle_estimator.specs.declared.SubbandErleEstimator.{SubbandErleEstimator}
 use Rattle.subband_erle_estimator.specs.Channel.{allPoints}
-use Rattle.subband_erle_estimator.specs.Subband.{settingsRefusal, channelOk, stateOk, updateRefusal, resetRefusal, startAnswer, resetAnswer, updateAnswer, noChannel}
+use Rattle.subband_erle_estimator.specs.Subband.{settingsRefusal, channelOk, stateOk, updateRefusal, stateRefusal, startAnswer, resetAnswer, updateAnswer, noChannel}
 use Rattle.subband_erle_estimator.specs.Resting.{answer, run}
 use Rattle.subband_erle_estimator.specs.Accepted.{NeverBadState}
 use Rattle.subband_erle_estimator.proofs.Channels.{ChannelKept}
@@ -49,7 +49,7 @@ state-ok g s e kept =
     (λ ch h. channel-ok g (getD (s .channels) ch noChannel) (kept .channels ch h)))
 
 answer-not-20 : (s : SubbandErleEstimator) (c : Call) → stateOk s ≡ true → answer s c .refused ≡ badState → ⊥
-unfolding answer updateAnswer updateRefusal resetAnswer resetRefusal
+unfolding answer updateAnswer updateRefusal resetAnswer stateRefusal
 answer-not-20 s (update channels converged render capture residual) ok e =
     update-not-20 (s .settings .«num_capture_channels») channels converged render capture residual (rw ok at e)
 answer-not-20 s reset ok e = let never : _≡_ {A = ℕ} 0 20 = rw ok at e in omega arith

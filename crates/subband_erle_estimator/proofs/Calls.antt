@@ -25,7 +25,7 @@ use Rattle.erle_bands.proofs.Range.{InOrder}
 use Rattle.subband_erle_estimator.specs.declared.settings.SubbandSettings.{SubbandSettings}
 use Rattle.subband_erle_estimator.specs.declared.SubbandErleEstimator.{SubbandErleEstimator}
 use Rattle.subband_erle_estimator.specs.Channel.{fresh, channelAfter}
-use Rattle.subband_erle_estimator.specs.Subband.{settingsRefusal, stateOk, updateRefusal, resetRefusal, started, startAnswer, resetAnswer, noChannel, channelAt, blockOf, updated, updateAnswer}
+use Rattle.subband_erle_estimator.specs.Subband.{settingsRefusal, stateOk, updateRefusal, stateRefusal, started, startAnswer, resetAnswer, noChannel, channelAt, blockOf, updated, updateAnswer}
 use Rattle.subband_erle_estimator.specs.Resting.{answer, run, InBinary32}
 use Rattle.subband_erle_estimator.proofs.Channels.{AllInOrder, ChannelKept, fresh-kept, after-kept}
 
@@ -125,7 +125,7 @@ module _ (g : SubbandSettings) (ok : SettingsOk g) where
   answer-kept s (update channels converged render capture residual) kept =
       let n = updateRefusal s channels converged render capture residual in
       cond-has (Kept g) (eqb n accepted) (λ e. updated-kept s channels converged render capture residual kept (eqb-true n accepted e)) (λ e. kept)
-  answer-kept s reset kept = cond-has (Kept g) (eqb (resetRefusal s) accepted) (λ e. rw (kept .settings) (started-kept g ok)) (λ e. kept)
+  answer-kept s reset kept = cond-has (Kept g) (eqb (stateRefusal s) accepted) (λ e. rw (kept .settings) (started-kept g ok)) (λ e. kept)
 
   pub run-kept : (calls : List Call) (s : SubbandErleEstimator) → Kept g s → Kept g (run s calls)
   unfolding run

@@ -39,8 +39,8 @@ updateRefusal s channels converged render capture residual =
     callRefusal (stateOk s) (s .settings .«num_capture_channels») channels converged render capture residual
 
 -- a reset is turned away under 20 alone
-unfoldable pub resetRefusal : SubbandErleEstimator → ℕ
-resetRefusal s = unless (stateOk s) badState accepted
+unfoldable pub stateRefusal : SubbandErleEstimator → ℕ
+stateRefusal s = unless (stateOk s) badState accepted
 
 -- ---- start, reset, update
 
@@ -61,7 +61,7 @@ startAnswer s =
 -- a reset leaves what a start with the state's settings gives
 unfoldable pub resetAnswer : SubbandErleEstimator → SubbandAnswer
 resetAnswer s =
-    let n = resetRefusal s in
+    let n = stateRefusal s in
     record { state = cond (eqb n accepted) (started (s .settings)) s; refused = n }
 
 -- what stands where a list of channels has no record

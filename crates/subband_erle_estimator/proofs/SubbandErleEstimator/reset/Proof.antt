@@ -1,15 +1,15 @@
 use borrow.Author.Needs.{needs}
 use mathlib.Core.Path.{_∙_, sym}
-use Rattle.subband_erle_estimator.specs.Subband.{resetRefusal, resetAnswer}
+use Rattle.subband_erle_estimator.specs.Subband.{stateRefusal, resetAnswer}
 use Rattle.subband_erle_estimator.proofs.SubbandErleEstimator.reset.Statement.{statement}
 use Rattle.subband_erle_estimator.proofs.SubbandErleEstimator.reset.Tie as tie
 
 returns : tie.Need-returns
-unfolding resetAnswer resetRefusal
+unfolding resetAnswer stateRefusal
 returns c = simp (sym (c .before .before .ok .ensures) ∙ c .before .if1 .taken, c .all-reset .ensures)
 
 returns-2 : tie.Need-returns-2
-unfolding resetAnswer resetRefusal
+unfolding resetAnswer stateRefusal
 returns-2 c = simp (sym (c .before .ok .ensures) ∙ c .if1 .left)
 
 pub reset-spec : {M : Type 1} → statement M
