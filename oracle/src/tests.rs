@@ -9,6 +9,8 @@ use crate::audio_processing::aec3::signal_dependent_erle_estimator::{
     peek_section_boundaries, peek_section_sizes, peek_subband_map, peek_subband_maxima,
 };
 use crate::judge;
+use crate::kinds::call::Call;
+use crate::kinds::part::Part;
 use crate::program::Program;
 use crate::record::take_record;
 use crate::run::run;
@@ -25,6 +27,30 @@ fn lines_of(program: Program, fill: impl Fn(&mut Script)) -> String {
     fill(&mut script);
     let (lines, _) = run(program, &script.bytes);
     String::from_utf8(lines.as_bytes().to_vec()).unwrap()
+}
+
+/// What stands after a script's last call.
+struct Standing {
+    text: String,
+}
+
+impl Standing {
+    /// After a start of a part and these calls, each so many times.
+    fn after<P: Part>(start: &P::Start, calls: &[(u32, Call)]) -> Self {
+        let text = lines_of(Program::ReplayParts, |script| {
+            script.start::<P>(start);
+            for (times, call) in calls {
+                script.repeat::<P>(*times, call);
+            }
+        });
+        Self { text }
+    }
+
+    /// The fields of the last line that begins so.
+    fn fields(&self, head: &str) -> Vec<&str> {
+        let last = self.text.lines().rev().find_map(|l| l.strip_prefix(head));
+        last.unwrap().split(' ').collect()
+    }
 }
 
 /// A binary32 number from its eight digits.

@@ -8,10 +8,10 @@ mod stretches;
 mod thresholds;
 mod values;
 
-use super::part::{call, damaged, refused, starts, POINTS, SETTINGS};
+use super::part::{call, damaged, makers, refused, starts, POINTS, SETTINGS};
 use super::spectra::{Power, Spectrum, LOUD};
 use super::{Maker, Script};
-use crate::judge::{BANDS, CAPTURE_CHANNELS};
+use crate::judge::BANDS;
 use crate::kinds::call::Call;
 use crate::kinds::fullband::{FullBand, Start};
 use crate::kinds::part::Settings;
@@ -32,7 +32,6 @@ const SWITCHES: std::ops::Range<u32> = 0..4;
 const STRETCHES: u64 = 84;
 
 pub fn scripts() -> Vec<Maker> {
-    let mut makers: Vec<Maker> = vec![Box::new(starts::script::<FullBand>)];
     let for_channels: [fn(usize) -> Script; 7] = [
         |channels| refused::script::<FullBand>(channels, Power::Loud),
         thresholds::script,
@@ -42,15 +41,12 @@ pub fn scripts() -> Vec<Maker> {
         holds::others,
         extremes::script,
     ];
-    for script in for_channels {
-        for channels in CAPTURE_CHANNELS {
-            makers.push(Box::new(move || script(channels as usize)));
-        }
-    }
-    for seed in 0..STRETCHES {
-        makers.push(Box::new(move || stretches::script(seed)));
-    }
-    makers
+    makers(
+        starts::script::<FullBand>,
+        &for_channels,
+        0..STRETCHES,
+        stretches::script,
+    )
 }
 
 /// Small scripts of bad input.

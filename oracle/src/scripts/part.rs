@@ -6,8 +6,8 @@ pub mod starts;
 
 use super::random::Random;
 use super::spectra::Spectrum;
-use super::Script;
-use crate::judge::{BANDS, GREATEST_ERLE, GREATEST_VALUE};
+use super::{Maker, Script};
+use crate::judge::{BANDS, CAPTURE_CHANNELS, GREATEST_ERLE, GREATEST_VALUE};
 use crate::kinds::call::Call;
 use crate::kinds::part::{Part, Settings};
 
@@ -34,6 +34,26 @@ pub const SETTINGS: [[f32; 3]; 10] = [
     ],
     [3.0, 3.0, 7.0],
 ];
+
+/// The makers of a part's scripts: the first, one of each sort for each number of
+/// channels, and so many of random stretches.
+pub fn makers(
+    first: fn() -> Script,
+    for_channels: &[fn(usize) -> Script],
+    stretches: std::ops::Range<u64>,
+    stretch: fn(u64) -> Script,
+) -> Vec<Maker> {
+    let mut makers: Vec<Maker> = vec![Box::new(first)];
+    for &script in for_channels {
+        for channels in CAPTURE_CHANNELS {
+            makers.push(Box::new(move || script(channels as usize)));
+        }
+    }
+    for seed in stretches {
+        makers.push(Box::new(move || stretch(seed)));
+    }
+    makers
+}
 
 /// A script that grows beside the published estimator, so that a call can aim
 /// at the figures that it finds.

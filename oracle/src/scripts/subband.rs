@@ -6,10 +6,9 @@ mod rests;
 pub mod sample;
 mod stretches;
 
-use super::part::{damaged, refused, starts, SETTINGS};
+use super::part::{damaged, makers, refused, starts, SETTINGS};
 use super::spectra::Power;
 use super::{Maker, Script};
-use crate::judge::CAPTURE_CHANNELS;
 use crate::kinds::part::Settings;
 use crate::kinds::subband::{Start, Subband};
 
@@ -19,7 +18,6 @@ type Walk = super::part::Walk<Subband>;
 const STRETCHES: u64 = 88;
 
 pub fn scripts() -> Vec<Maker> {
-    let mut makers: Vec<Maker> = vec![Box::new(starts::script::<Subband>)];
     let for_channels: [fn(usize) -> Script; 6] = [
         |channels| refused::script::<Subband>(channels, Power::Near),
         edges::values,
@@ -28,15 +26,12 @@ pub fn scripts() -> Vec<Maker> {
         rests::gaps,
         rests::others,
     ];
-    for script in for_channels {
-        for channels in CAPTURE_CHANNELS {
-            makers.push(Box::new(move || script(channels as usize)));
-        }
-    }
-    for seed in 0..STRETCHES {
-        makers.push(Box::new(move || stretches::script(seed)));
-    }
-    makers
+    makers(
+        starts::script::<Subband>,
+        &for_channels,
+        0..STRETCHES,
+        stretches::script,
+    )
 }
 
 /// Small scripts of bad input.

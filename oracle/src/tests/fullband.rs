@@ -1,6 +1,6 @@
 //! Readings of the fullband steps, asked of the published Rust.
 
-use super::{lines_of, number, records_of_kind};
+use super::{lines_of, number, records_of_kind, Standing};
 use crate::audio_processing::aec3::fullband_erle_estimator::{peek_channel, PeekedChannel};
 use crate::judge::{BANDS, GREATEST_VALUE};
 use crate::kinds::call::Call;
@@ -22,30 +22,7 @@ fn lines(fill: impl Fn(&mut Script)) -> String {
     lines_of(Program::ReplayParts, fill)
 }
 
-/// What stands after a script's last call.
-struct Standing {
-    text: String,
-}
-
 impl Standing {
-    /// After a start and these calls, each so many times.
-    fn after(start: Start, calls: &[(u32, Call)]) -> Self {
-        Self {
-            text: lines(|script| {
-                script.start::<FullBand>(&start);
-                for (times, call) in calls {
-                    script.repeat::<FullBand>(*times, call);
-                }
-            }),
-        }
-    }
-
-    /// The fields of the last line that begins so.
-    fn fields(&self, head: &str) -> Vec<&str> {
-        let last = self.text.lines().rev().find_map(|l| l.strip_prefix(head));
-        last.unwrap().split(' ').collect()
-    }
-
     /// The bits of the fullband log2 figure.
     fn log2(&self) -> u32 {
         number(self.fields("full ")[0]).to_bits()
@@ -74,7 +51,7 @@ const RAW_QUALITY: usize = 8;
 
 /// After the example's start and these calls.
 fn after(calls: &[(u32, Call)]) -> Standing {
-    Standing::after(example_start(), calls)
+    Standing::after::<FullBand>(&example_start(), calls)
 }
 
 fn six(capture: f32, residual: f32) -> (u32, Call) {
@@ -212,7 +189,7 @@ fn the_least_channel_counts() {
         ..example_start()
     };
     let first_alone = flat(&[true, false], LOUD, 30.0, 1.0);
-    let standing = Standing::after(start, &[(6, first_alone)]);
+    let standing = Standing::after::<FullBand>(&start, &[(6, first_alone)]);
     assert_eq!(standing.log2(), MINIMUM);
     assert_ne!(number(standing.held(0, FIGURE)).to_bits(), MINIMUM);
     assert_eq!(

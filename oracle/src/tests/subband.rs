@@ -1,6 +1,6 @@
 //! Readings of the subband steps, asked of the published Rust.
 
-use super::{lines_of, number, records_of_kind};
+use super::{lines_of, number, records_of_kind, Standing};
 use crate::judge::{BANDS, GREATEST_ERLE, GREATEST_VALUE};
 use crate::kinds::call::Call;
 use crate::kinds::part::{Part, Settings};
@@ -21,34 +21,15 @@ fn lines(fill: impl Fn(&mut Script)) -> String {
     lines_of(Program::ReplayParts, fill)
 }
 
-/// What stands after a script's last call.
-struct Standing {
-    text: String,
-}
-
 impl Standing {
-    /// After a start and these calls, each so many times.
-    fn after(start: Start, calls: &[(u32, Call)]) -> Self {
-        Self {
-            text: lines(|script| {
-                script.start::<Subband>(&start);
-                for (times, call) in calls {
-                    script.repeat::<Subband>(*times, call);
-                }
-            }),
-        }
-    }
-
     /// The fields of a channel's last line of a name.
-    fn fields(&self, name: &str, channel: usize) -> Vec<&str> {
-        let head = format!("{name} {channel} ");
-        let last = self.text.lines().rev().find_map(|l| l.strip_prefix(&head));
-        last.unwrap().split(' ').collect()
+    fn line(&self, name: &str, channel: usize) -> Vec<&str> {
+        self.fields(&format!("{name} {channel} "))
     }
 
     /// The bits of a figure in a band of the first channel.
     fn band(&self, name: &str, band: usize) -> u32 {
-        let fields = self.fields(name, 0);
+        let fields = self.line(name, 0);
         assert_eq!(fields.len(), BANDS);
         number(fields[band]).to_bits()
     }
@@ -59,17 +40,17 @@ impl Standing {
     }
 
     fn hold(&self, channel: usize) -> &str {
-        self.fields("hold", channel)[20]
+        self.line("hold", channel)[20]
     }
 
     fn waits(&self, channel: usize) -> bool {
-        self.fields("wait", channel)[0].as_bytes()[20] == b'1'
+        self.line("wait", channel)[0].as_bytes()[20] == b'1'
     }
 }
 
 /// After the example's start and these calls.
 fn after(calls: &[(u32, Call)]) -> Standing {
-    Standing::after(example_start(), calls)
+    Standing::after::<Subband>(&example_start(), calls)
 }
 
 fn six(render: f32, capture: f32, residual: f32) -> (u32, Call) {
@@ -113,7 +94,7 @@ fn the_two_maxima() {
 fn the_sixth_point_counts_once() {
     let standing = after(&[six(LOUD, 3.0, 1.0), quiet(1)]);
     assert_eq!(standing.figure("plain"), MOVED);
-    assert_eq!(standing.fields("points", 0), ["6"]);
+    assert_eq!(standing.line("points", 0), ["6"]);
 }
 
 #[test]
@@ -156,7 +137,7 @@ fn low_energy_stops_falls_only() {
 #[test]
 fn each_stream_compares_with_itself() {
     let calls = [(60, converged(1, LOUD, 10.0, 1.0)), six(LOUD, 2.0, 1.0)];
-    let standing = Standing::after(with_settings(1.0, 1.5, 1.5), &calls);
+    let standing = Standing::after::<Subband>(&with_settings(1.0, 1.5, 1.5), &calls);
     assert_eq!(standing.figure("plain"), 1.5_f32.to_bits());
     assert_eq!(standing.figure("unb"), 0x408B_3518);
 }
@@ -171,7 +152,7 @@ fn a_move_rounds_three_times() {
         (5, converged(1, LOUD, 0.0, 0.0)),
         (1, converged(1, LOUD, to, 1.0)),
     ];
-    let standing = Standing::after(with_settings(from, 100.0, 100.0), &calls);
+    let standing = Standing::after::<Subband>(&with_settings(from, 100.0, 100.0), &calls);
     assert_eq!(standing.figure("plain"), 0x4009_1E3C);
 }
 
@@ -193,9 +174,9 @@ fn one_channel_decays_while_another_converges() {
     };
     let both = flat(&[true, true], LOUD, 3.0, 1.0);
     let first_alone = flat(&[true, false], LOUD, 3.0, 1.0);
-    let standing = Standing::after(start, &[(6, both), (600, first_alone)]);
-    assert_eq!(standing.fields("comp", 1)[20], "3F800000");
-    assert_eq!(standing.fields("plain", 1)[20], "3F8CCCCD");
+    let standing = Standing::after::<Subband>(&start, &[(6, both), (600, first_alone)]);
+    assert_eq!(standing.line("comp", 1)[20], "3F800000");
+    assert_eq!(standing.line("plain", 1)[20], "3F8CCCCD");
     assert_eq!((standing.hold(0), standing.waits(0)), ("249", false));
     assert_eq!((standing.hold(1), standing.waits(1)), ("0", true));
 }
@@ -206,7 +187,7 @@ fn without_onset_detection_the_compensated_stream_stays() {
         onset: false,
         ..example_start()
     };
-    let standing = Standing::after(start, &[six(LOUD, 3.0, 1.0), quiet(600)]);
+    let standing = Standing::after::<Subband>(&start, &[six(LOUD, 3.0, 1.0), quiet(600)]);
     assert_eq!(standing.figure("comp"), MOVED);
     assert_eq!(standing.figure("rawcomp"), 1_f32.to_bits());
     assert_eq!((standing.hold(0), standing.waits(0)), ("0", true));
@@ -236,7 +217,7 @@ fn the_outer_bands_copy_their_neighbours() {
     for band in [0, BANDS - 1] {
         assert_eq!(standing.band("plain", band), MOVED);
         assert_eq!(standing.band("y2sum", band), 0);
-        assert_eq!(standing.fields("hold", 0)[band], "0");
+        assert_eq!(standing.line("hold", 0)[band], "0");
     }
 }
 
@@ -245,7 +226,7 @@ fn the_longest_rest() {
     let rest = |blocks| {
         let start = with_settings(1.0, GREATEST_ERLE, GREATEST_ERLE);
         let learnt = six(LOUD, GREATEST_VALUE, f32::from_bits(1));
-        Standing::after(start, &[learnt, quiet(blocks)])
+        Standing::after::<Subband>(&start, &[learnt, quiet(blocks)])
     };
     assert_eq!(rest(98).figure("comp"), GREATEST_ERLE.to_bits());
     assert_ne!(rest(475).figure("comp"), 1_f32.to_bits());
