@@ -4,6 +4,7 @@ pub mod damaged;
 pub mod refused;
 pub mod starts;
 
+use super::flags::Flags;
 use super::random::Random;
 use super::spectra::Spectrum;
 use super::{Maker, Script};
@@ -109,6 +110,40 @@ impl<P: Part> Walk<P> {
     pub fn repeat(&mut self, times: u32, call: &Call) {
         self.script.repeat::<P>(times, call);
         self.run(times, call);
+    }
+
+    /// Only the flagged channels for a while, and then all for so many blocks,
+    /// which leaves them at different points; a reset brings them together.
+    pub fn some_then_all(
+        &mut self,
+        random: &mut Random,
+        flags: &[bool],
+        together: usize,
+        make: fn(&mut Random, &[bool]) -> Call,
+    ) {
+        for _ in 0..2 {
+            for _ in 0..POINTS + 2 {
+                self.update(&make(random, flags));
+            }
+            for _ in 0..together {
+                self.update(&make(random, &vec![true; flags.len()]));
+            }
+            self.reset();
+        }
+    }
+
+    /// So many blocks in which each channel converges as it pleases.
+    pub fn mixed(
+        &mut self,
+        random: &mut Random,
+        channels: usize,
+        blocks: u32,
+        make: fn(&mut Random, &[bool]) -> Call,
+    ) {
+        for _ in 0..blocks {
+            let flags = Flags::Any.draw(random, channels);
+            self.update(&make(random, &flags));
+        }
     }
 
     pub fn reset(&mut self) {

@@ -3,7 +3,7 @@
 
 use super::{example_start, start, Walk};
 use crate::kinds::call::Call;
-use crate::scripts::flags::{mask_flags, Flags};
+use crate::scripts::flags::mask_flags;
 use crate::scripts::part::{call, converged, quiet, POINTS, SETTINGS};
 use crate::scripts::random::Random;
 use crate::scripts::spectra::{power, powers, Power, Spectrum, LOUD};
@@ -26,10 +26,12 @@ pub fn script(channels: usize) -> Script {
             }
         }
         for mask in 0..1 << channels {
-            one_mask(&mut walk, &mut random, mask, onset, channels);
+            walk.start(&start(SETTINGS[7], onset, channels));
+            let flags = mask_flags(mask, channels);
+            walk.some_then_all(&mut random, &flags, POINTS + 1, random_call);
         }
         walk.start(&start(SETTINGS[7], onset, channels));
-        mixed(&mut walk, &mut random, channels);
+        walk.mixed(&mut random, channels, MIXED_BLOCKS, random_call);
     }
     walk.script
 }
@@ -53,30 +55,6 @@ fn spoilt(channels: usize) -> Call {
     let mut call = converged(channels, 0.0, 5.0, 1.0);
     *call.residual.last_mut().expect("a channel") = f32::NAN;
     call
-}
-
-/// Only some channels for a while, and then all, which leaves them at different
-/// points; a reset brings them together.
-fn one_mask(walk: &mut Walk, random: &mut Random, mask: u32, onset: bool, channels: usize) {
-    walk.start(&start(SETTINGS[7], onset, channels));
-    let flags = mask_flags(mask, channels);
-    for _ in 0..2 {
-        for _ in 0..POINTS + 2 {
-            walk.update(&random_call(random, &flags));
-        }
-        for _ in 0..POINTS + 1 {
-            walk.update(&random_call(random, &vec![true; channels]));
-        }
-        walk.reset();
-    }
-}
-
-/// Each channel converges as it pleases.
-fn mixed(walk: &mut Walk, random: &mut Random, channels: usize) {
-    for _ in 0..MIXED_BLOCKS {
-        let flags = Flags::Any.draw(random, channels);
-        walk.update(&random_call(random, &flags));
-    }
 }
 
 /// Renders mostly above T, and ratios from below the minimum to far above.
