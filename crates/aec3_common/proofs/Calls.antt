@@ -10,9 +10,9 @@ use lib.Ieee.{Float}
 use lib.ListN.{length}
 use Rattle.aec3_common.specs.Binary32.{valuesOk}
 use Rattle.aec3_common.specs.Refusal.{unless, accepted, badChannelCount, badState}
-use Rattle.aec3_common.specs.Settings.{maxCaptureChannels, limitsOk, captureChannelsOk, limitsAndChannelsRefusal}
-use Rattle.aec3_common.specs.Calls.{Call, runBy, lengthsOk, valuesInRange, callRefusal}
-use Rattle.aec3_common.proofs.Choices.{passed, later-passed, each-of-three, each-of-four}
+use Rattle.aec3_common.specs.Settings.{maxCaptureChannels, limitsOk, captureChannelsOk, sectionsOk, limitsAndChannelsRefusal, sectionedSettingsRefusal}
+use Rattle.aec3_common.specs.Calls.{runBy, lengthsOk, valuesInRange, callRefusal}
+use Rattle.aec3_common.proofs.Choices.{passed, later-passed, first-of-passed, each-of-three, each-of-four}
 use Rattle.aec3_common.proofs.Ranges.{from-lo, to-hi}
 
 module _ (min maxL maxH : Float) (n : ℕ) (e : limitsAndChannelsRefusal min maxL maxH n ≡ accepted) where
@@ -32,6 +32,17 @@ module _ (min maxL maxH : Float) (n : ℕ) (e : limitsAndChannelsRefusal min max
 
   pub few-channels : n ≤ 4
   few-channels = to-hi 1 maxCaptureChannels n channels-passed
+
+module _ (min maxL maxH : Float) (n sections length samples : ℕ) (e : sectionedSettingsRefusal min maxL maxH n sections length samples ≡ accepted) where
+  -- settings with sections that pass break neither 1 nor 2
+  pub first-passed : limitsAndChannelsRefusal min maxL maxH n ≡ accepted
+  unfolding sectionedSettingsRefusal
+  first-passed = first-of-passed (limitsAndChannelsRefusal min maxL maxH n) _ e .0
+
+  -- nor 3
+  pub sections-passed : sectionsOk sections length samples ≡ true
+  unfolding sectionedSettingsRefusal
+  sections-passed = passed (sectionsOk sections length samples) 2 accepted (first-of-passed (limitsAndChannelsRefusal min maxL maxH n) _ e .1)
 
 -- an accepted update: a state that passes, as many flags, captures and residuals as its n channels ask, 65 renders, and all
 -- values from 0 to 2^100
@@ -85,8 +96,8 @@ update-not-20 n channels converged render capture residual =
 
 -- what every step keeps, a run keeps
 pub run-keeps :
-    {S : Type 0} (P : S → Type 0) (step : S → Call → S) → ((s : S) (c : Call) → P s → P (step s c))
-    → (calls : List Call) (s : S) → P s → P (runBy step s calls)
+    {S C : Type 0} (P : S → Type 0) (step : S → C → S) → ((s : S) (c : C) → P s → P (step s c))
+    → (calls : List C) (s : S) → P s → P (runBy step s calls)
 unfolding runBy
 run-keeps P step keeps [] s p = p
 run-keeps P step keeps (c ∷ cs) s p = run-keeps P step keeps cs (step s c) (keeps s c p)

@@ -1,9 +1,10 @@
 -- Tests joined by && and ||, choices between two values, and the first refusal of a chain.
 use mathlib.Core.Path.{_≡_, refl, sym}
 use mathlib.Core.Bool.{Bool, true, false, cond, _&&_, false≢true}
-use Prim.Native.Nat.{ℕ, suc}
+use Prim.Native.Nat.{ℕ, zero, suc}
 use native.Mathlib.Omega.{arith}
-use Rattle.aec3_common.specs.Refusal.{unless}
+use borrow.Author.Tests.{ne-eqb}
+use Rattle.aec3_common.specs.Refusal.{unless, firstOf}
 
 pub and-left : (a b : Bool) → a && b ≡ true → a ≡ true
 and-left true b e = refl
@@ -59,3 +60,8 @@ passed false n later e = absurd (omega arith)
 pub later-passed : (t : Bool) (n later : ℕ) → unless t (suc n) later ≡ 0 → later ≡ 0
 later-passed true n later e = e
 later-passed false n later e = absurd (omega arith)
+
+-- nor has the first of two refusals, nor the later one
+pub first-of-passed : (n later : ℕ) → firstOf n later ≡ 0 → (n ≡ 0) × (later ≡ 0)
+first-of-passed zero later e = (refl, e)
+first-of-passed (suc n) later e = absurd (omega (arith, rw (ne-eqb (suc n) 0 (λ p. omega arith)) at e))

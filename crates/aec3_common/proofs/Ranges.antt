@@ -3,7 +3,7 @@ use mathlib.Core.Path.{_≡_}
 use mathlib.Core.Bool.{Bool, true, _&&_, _||_}
 use Prim.Native.Nat.{ℕ, _+_, _≤_}
 use lib.Dec.{leb}
-use borrow.Author.Tests.{leb-true}
+use borrow.Author.Tests.{leb-true, lt-leb}
 use Rattle.aec3_common.specs.Refusal.{fromTo}
 use Rattle.aec3_common.specs.Settings.{headroomBlocks, roomForSections, rangesOk, sectionsOk, maxSections, maxFilterLengthBlocks, maxHeadroomSamples}
 use Rattle.aec3_common.proofs.Choices.{and-left, and-right}
@@ -38,3 +38,12 @@ pub sections-in-ranges :
 unfolding sectionsOk
 sections-in-ranges sections length samples ok =
     and-left (rangesOk sections length samples) (leb sections 1 || roomForSections sections length (headroomBlocks samples)) ok
+
+-- and with two sections or more these and the headroom blocks fit into the filter
+pub room-for-sections :
+    (sections length samples : ℕ) → sectionsOk sections length samples ≡ true → 2 ≤ sections → sections + headroomBlocks samples ≤ length
+unfolding sectionsOk
+room-for-sections sections length samples ok many =
+    let roomy = leb (sections + headroomBlocks samples) length in
+    let either = and-right (rangesOk sections length samples) (leb sections 1 || roomy) ok in
+    leb-true (sections + headroomBlocks samples) length (rw (lt-leb sections 1 many) at either)

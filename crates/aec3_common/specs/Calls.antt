@@ -16,7 +16,7 @@ pub data Call : Type 0 where
   reset : Call
 
 -- each call takes up the state that the last one left
-unfoldable pub runBy : {S : Type 0} → (S → Call → S) → S → List Call → S
+unfoldable pub runBy : {S C : Type 0} → (S → C → S) → S → List C → S
 runBy step s [] = s
 runBy step s (c ∷ cs) = runBy step (step s c) cs
 

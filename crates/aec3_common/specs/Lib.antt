@@ -7,3 +7,4 @@ pub mod Log2
 pub mod Settings
 pub mod Calls
 pub mod Constants
+pub mod Streams

@@ -63,9 +63,15 @@ limitsAndChannelsRefusal min maxL maxH channels =
     (unless (captureChannelsOk channels) badChannelCount
     accepted)
 
--- the first of 1, 2 and 3 that the settings break
+-- the first of 1, 2 and 3, or 0
+unfoldable pub sectionedSettingsRefusal : Float → Float → Float → ℕ → ℕ → ℕ → ℕ → ℕ
+sectionedSettingsRefusal min maxL maxH channels sections length samples =
+    firstOf (limitsAndChannelsRefusal min maxL maxH channels)
+    (unless (sectionsOk sections length samples) badSections
+    accepted)
+
+-- of whole settings
 unfoldable pub settingsRefusal : ErleSettings → ℕ
 settingsRefusal s =
-    firstOf (limitsAndChannelsRefusal (s .min) (s .«max_l») (s .«max_h») (s .«num_capture_channels»))
-    (unless (sectionsOk (s .«num_sections») (s .«filter_length_blocks») (s .«delay_headroom_samples»)) badSections
-    accepted)
+    sectionedSettingsRefusal (s .min) (s .«max_l») (s .«max_h») (s .«num_capture_channels»)
+    (s .«num_sections») (s .«filter_length_blocks») (s .«delay_headroom_samples»)

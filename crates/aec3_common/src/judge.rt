@@ -10,7 +10,8 @@ ghost use mathlib.Core.Bool.{true};
 ghost use Prim.Native.Nat.{_≤_};
 ghost use Rattle.aec3_common.specs.Calls.{lengthsOk, valuesInRange, callRefusal};
 
-fn lengths_ok(channels: usize, converged: &[bool], x2: &[f32], y2: &[f32], e2: &[f32]) -> bool
+// Number 5, of what every ERLE estimator is lent, for a count of channels in its range.
+pub fn lengths_ok(channels: usize, converged: &[bool], x2: &[f32], y2: &[f32], e2: &[f32]) -> bool
     requires { ⌜ channels ≤ 4 ⌝ }
     ensures { λ r. ⌜ r ≡ lengthsOk channels (now (converged .entry)) (now (x2 .entry)) (now (y2 .entry)) (now (e2 .entry)) ⌝ }
 {
@@ -20,7 +21,8 @@ fn lengths_ok(channels: usize, converged: &[bool], x2: &[f32], y2: &[f32], e2: &
         & (e2.len() == channels * 65)
 }
 
-fn all_values_ok(x2: &[f32], y2: &[f32], e2: &[f32]) -> bool
+// Number 6, of the same.
+pub fn all_values_ok(x2: &[f32], y2: &[f32], e2: &[f32]) -> bool
     ensures { λ r. ⌜ r ≡ valuesInRange (now (x2 .entry)) (now (y2 .entry)) (now (e2 .entry)) ⌝ }
 {
     values_ok(x2) & values_ok(y2) & values_ok(e2)

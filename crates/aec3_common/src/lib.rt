@@ -6,6 +6,7 @@ pub mod log2;
 pub mod refusal;
 pub mod settings;
 pub mod spectra;
+pub mod streams;
 
 pub use binary32::clamp;
 pub use binary32::larger;

@@ -6,7 +6,7 @@ use crate::refusal::BAD_LIMITS;
 use crate::refusal::BAD_SECTIONS;
 ghost use mathlib.Core.Path.{_≡_};
 ghost use Rattle.aec3_common.specs.Refusal.{fromTo};
-ghost use Rattle.aec3_common.specs.Settings.{headroomBlocks, limitsOk, captureChannelsOk, renderChannelsOk, rangesOk, sectionsOk, limitsAndChannelsRefusal, settingsRefusal};
+ghost use Rattle.aec3_common.specs.Settings.{headroomBlocks, limitsOk, captureChannelsOk, renderChannelsOk, rangesOk, sectionsOk, limitsAndChannelsRefusal, sectionedSettingsRefusal, settingsRefusal};
 
 // 100,000, above which no ERLE goes.
 pub const GREATEST_ERLE: f32 = 100_000.0;
@@ -105,27 +105,41 @@ pub fn limits_and_channels_refusal(min: f32, max_l: f32, max_h: f32, channels: u
     }
 }
 
+// The first of 1, 2 and 3, or 0.
+pub fn sectioned_settings_refusal(
+    min: f32,
+    max_l: f32,
+    max_h: f32,
+    channels: usize,
+    sections: usize,
+    length: usize,
+    samples: usize,
+) -> u32
+    ensures { λ r. ⌜ r ≡ sectionedSettingsRefusal min «max_l» «max_h» channels sections length samples ⌝ }
+{
+    let refused = limits_and_channels_refusal(min, max_l, max_h, channels);
+    if refused != ACCEPTED {
+        refused
+    } else if sections_ok(sections, length, samples) {
+        ACCEPTED
+    } else {
+        BAD_SECTIONS
+    }
+}
+
 impl ErleSettings {
     // The first of 1, 2 and 3 that the settings break, or 0.
     pub fn refusal(self) -> u32
         ensures { λ r. ⌜ r ≡ settingsRefusal self ⌝ }
     {
-        let refused = limits_and_channels_refusal(
+        sectioned_settings_refusal(
             self.min,
             self.max_l,
             self.max_h,
             self.num_capture_channels,
-        );
-        if refused != ACCEPTED {
-            refused
-        } else if sections_ok(
             self.num_sections,
             self.filter_length_blocks,
             self.delay_headroom_samples,
-        ) {
-            ACCEPTED
-        } else {
-            BAD_SECTIONS
-        }
+        )
     }
 }

@@ -111,7 +111,3 @@ unfoldable pub updateAnswer : SubbandErleEstimator → ℕ → List Bool → Lis
 updateAnswer s channels converged render capture residual =
     let n = updateRefusal s channels converged render capture residual in
     record { state = cond (eqb n accepted) (updated s converged render capture residual) s; refused = n }
-
--- `erle` answers one of two streams: the compensated one where it is asked for and onset detection is on, else the plain one
-unfoldable pub erleOf : List Float → List Float → Bool → Bool → List Float
-erleOf plain compensated onsetCompensated onsetDetection = cond (onsetCompensated && onsetDetection) compensated plain

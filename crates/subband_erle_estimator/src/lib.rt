@@ -6,11 +6,12 @@ use aec3_common::judge::call_refusal;
 use aec3_common::refusal::ACCEPTED;
 use aec3_common::refusal::BAD_STATE;
 use aec3_common::spectra::part;
+pub use aec3_common::streams::erle;
 pub use channel::SubbandChannel;
 pub use settings::SubbandSettings;
 use settings::refused_settings;
 ghost use mathlib.Core.Path.{_≡_};
-ghost use Rattle.subband_erle_estimator.specs.Subband.{stateOk, started as Subband·started, startAnswer, resetAnswer, updateAnswer, erleOf};
+ghost use Rattle.subband_erle_estimator.specs.Subband.{stateOk, started as Subband·started, startAnswer, resetAnswer, updateAnswer};
 
 pub struct SubbandErleEstimator {
     pub settings: SubbandSettings,
@@ -21,22 +22,6 @@ pub struct SubbandErleEstimator {
 pub struct SubbandAnswer {
     pub state: SubbandErleEstimator,
     pub refused: u32,
-}
-
-// The stream that is asked for, of the two that are lent: the compensated one only with onset detection on.
-pub fn erle<'a>(
-    plain: &'a [f32],
-    compensated: &'a [f32],
-    onset_compensated: bool,
-    onset_detection: bool,
-) -> &'a [f32]
-    ensures { λ r. ⌜ now r ≡ erleOf (now (plain .entry)) (now (compensated .entry)) «onset_compensated» «onset_detection» ⌝ }
-{
-    if onset_compensated & onset_detection {
-        compensated
-    } else {
-        plain
-    }
 }
 
 // All four records as a reset fills them.

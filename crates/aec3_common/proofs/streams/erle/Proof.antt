@@ -1,6 +1,6 @@
-use Rattle.subband_erle_estimator.specs.Subband.{erleOf}
-use Rattle.subband_erle_estimator.proofs.erle.Statement.{statement}
-use Rattle.subband_erle_estimator.proofs.erle.Tie as tie
+use Rattle.aec3_common.specs.Streams.{erleOf}
+use Rattle.aec3_common.proofs.streams.erle.Statement.{statement}
+use Rattle.aec3_common.proofs.streams.erle.Tie as tie
 
 returns : tie.Need-returns
 unfolding erleOf

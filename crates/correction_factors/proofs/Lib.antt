@@ -1,0 +1,4 @@
+pub mod Constants
+mod Bands
+mod Entries
+mod Update

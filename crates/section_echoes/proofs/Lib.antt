@@ -1,0 +1,9 @@
+pub mod Channel
+pub mod EachChannel
+pub mod Constants
+pub mod Least
+pub mod Packed
+pub mod Sections
+pub mod Sums
+pub mod Tables
+pub mod Walks

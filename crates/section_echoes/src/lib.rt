@@ -1,0 +1,16 @@
+// The echo of each section of the adaptive filter, and the section that is active in each band.
+mod active;
+mod channels;
+mod echoes;
+mod renders;
+mod walk;
+
+pub use channels::all_active_sections;
+
+// How the ring of render spectra is lent and read: so many slots of so many channels, 65 numbers each, slot by slot and channel
+// by channel; the filter's first block reads at position.
+pub struct RenderRing {
+    pub slots: usize,
+    pub channels: usize,
+    pub position: usize,
+}
