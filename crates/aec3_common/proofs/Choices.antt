@@ -51,6 +51,17 @@ pub cond-by : {A : Type 0} (t : Bool) (r x y : A) → (t ≡ true → r ≡ x) �
 cond-by true r x y a b = a refl
 cond-by false r x y a b = b refl
 
+-- choices whose first values are the same where the test holds
+pub cond-same : {A : Type 0} (t : Bool) (z : A) {x y : A} → (t ≡ true → x ≡ y) → cond t x z ≡ cond t y z
+cond-same true z e = e refl
+cond-same false z e = refl
+
+-- a choice under two tests of which one fails
+pub cond-neither : {A : Type 0} (a b : Bool) (x y : A) → a && b ≡ false → y ≡ cond a (cond b x y) y
+cond-neither true true x y e = absurd (false≢true (sym e))
+cond-neither true false x y e = refl
+cond-neither false b x y e = refl
+
 -- a test whose failure has a number has passed where the chain says 0
 pub passed : (t : Bool) (n later : ℕ) → unless t (suc n) later ≡ 0 → t ≡ true
 passed true n later e = refl

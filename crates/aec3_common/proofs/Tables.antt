@@ -6,10 +6,10 @@ use Prim.Native.Nat.{ℕ, zero, suc, _+_, _≤_, _<_}
 use native.Mathlib.Nat.{le-of-suc-le-suc, not-suc-le-zero, le-refl}
 use native.Mathlib.Omega.{arith}
 use borrow.Author.Count.{below-more}
-use borrow.Author.Tests.{ltb-true, ltb-false, lt-ltb}
+use borrow.Author.Tests.{ltb-true, ltb-false, leb-true, leb-false, lt-ltb}
 use lib.ListN.{length, length-map, getD, set, length-set}
 use lib.Seq.{ext-getD, getD-set-same, getD-set-other}
-use lib.Dec.{ltb}
+use lib.Dec.{leb, ltb}
 use Rattle.aec3_common.specs.Lists.{tab}
 use Rattle.aec3_common.specs.Spectra.{innerBand}
 use Rattle.aec3_common.proofs.Choices.{and-left, and-right, cond-by}
@@ -109,20 +109,26 @@ pub stored-not-yet :
     → Stored n d lo hi f xs r k → getD r k d ≡ getD xs k d
 stored-not-yet {k = k} s = s .ahead k (le-refl k)
 
+-- the loop over the entries from lo to below hi has ended
+pub stored-between :
+    {A : Type 0} {n : ℕ} {d : A} {lo hi : ℕ} {f : ℕ → A} {xs r : List A} {k : ℕ}
+    → Stored n d lo hi f xs r k → hi ≤ k → r ≡ tab n (λ j. cond (leb lo j && ltb j hi) (f j) (getD xs j d))
+stored-between {n = n} {d = d} {lo = lo} {hi = hi} {f = f} {xs = xs} {r = r} s h =
+    tab-is n d (λ j. cond (leb lo j && ltb j hi) (f j) (getD xs j d)) r (s .long)
+    (λ j b. cond-by (leb lo j && ltb j hi) (getD r j d) (f j) (getD xs j d) (within j) (beside j (leb lo j) refl))
+  where
+    within : (j : ℕ) → leb lo j && ltb j hi ≡ true → getD r j d ≡ f j
+    within j e =
+        s .done j
+        (omega (arith, ltb-true j hi (and-right (leb lo j) (ltb j hi) e)))
+        (omega (arith, leb-true lo j (and-left (leb lo j) (ltb j hi) e)))
+
+    beside : (j : ℕ) (t : Bool) → leb lo j ≡ t → t && ltb j hi ≡ false → getD r j d ≡ getD xs j d
+    beside j true e out = s .ahead j (omega (arith, s .to, ltb-false j hi out))
+    beside j false e out = s .under j (omega (arith, leb-false lo j e))
+
 -- the loop over bands 1 to 63 has ended
 pub stored-inner :
     {A : Type 0} {d : A} {f : ℕ → A} {xs r : List A} {k : ℕ}
     → Stored 65 d 1 64 f xs r k → 64 ≤ k → r ≡ tab 65 (λ j. cond (innerBand j) (f j) (getD xs j d))
-stored-inner {d = d} {f = f} {xs = xs} {r = r} s h =
-    tab-is 65 d (λ j. cond (innerBand j) (f j) (getD xs j d)) r (s .long)
-    (λ j b. cond-by (innerBand j) (getD r j d) (f j) (getD xs j d) (within j) (beside j (ltb 0 j) refl))
-  where
-    within : (j : ℕ) → innerBand j ≡ true → getD r j d ≡ f j
-    within j e =
-        s .done j
-        (omega (arith, ltb-true j 64 (and-right (ltb 0 j) (ltb j 64) e)))
-        (omega (arith, ltb-true 0 j (and-left (ltb 0 j) (ltb j 64) e)))
-
-    beside : (j : ℕ) (t : Bool) → ltb 0 j ≡ t → t && ltb j 64 ≡ false → getD r j d ≡ getD xs j d
-    beside j true e out = s .ahead j (omega (arith, s .to, ltb-false j 64 out))
-    beside j false e out = s .under j (omega (arith, ltb-false 0 j e))
+stored-inner s h = stored-between s h

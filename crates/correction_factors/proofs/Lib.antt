@@ -1,4 +1,5 @@
 pub mod Constants
+pub mod Corrected
 mod Bands
 mod Entries
 mod Update

@@ -1,3 +1,4 @@
 pub mod Constants
 pub mod Factors
 pub mod Steps
+pub mod Streams

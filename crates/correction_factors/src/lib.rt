@@ -1,6 +1,7 @@
 // What a channel learns about the sections of its filter, subband by subband, and the factors that come of it.
 mod learning;
 mod lessons;
+mod streams;
 mod subbands;
 
 use learning::count_updates;
@@ -10,6 +11,9 @@ use learning::move_references;
 use lessons::least_active;
 use lessons::new_ratios;
 use lessons::updated_subbands;
+pub use streams::band_factors;
+pub use streams::copy_last;
+pub use streams::correct_stream;
 pub use subbands::subband_sums;
 ghost use mathlib.Core.Path.{_≡_};
 ghost use Prim.Native.Nat.{_≤_};

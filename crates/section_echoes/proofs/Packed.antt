@@ -6,14 +6,14 @@ use Prim.Native.Nat.{ℕ, zero, suc, _+_, _-_, _*_, _≤_, _<_}
 use native.Mathlib.Nat.{le-of-suc-le-suc, not-suc-le-zero}
 use native.Mathlib.Numerals.{add-one}
 use native.Mathlib.Omega.{arith}
-use borrow.Author.Tests.{leb-true}
+use borrow.Author.Tests.{leb-true, le-leb}
 use lib.Dec.{leb}
 use lib.Ieee.{Float}
 use lib.ListN.{length, length-drop, getD, take, drop}
 use lib.Seq.{length-take-le}
 use Rattle.aec3_common.specs.Lists.{every}
 use Rattle.aec3_common.proofs.Choices.{and-left, and-right}
-use Rattle.aec3_common.proofs.Every.{every-at}
+use Rattle.aec3_common.proofs.Every.{every-at, every-by}
 use Rattle.section_echoes.specs.Packed.{total, responsesOf}
 
 -- one channel more
@@ -39,6 +39,12 @@ unfolding total every
 total-small most [] e = omega arith
 total-small most (n ∷ ns) e =
     omega (arith, leb-true n most (and-left (leb n most) (every (λ m. leb m most) ns) e), total-small most ns (and-right (leb n most) (every (λ m. leb m most) ns) e))
+
+-- a lower limit keeps a higher one
+pub each-at-most : (most more : ℕ) (counts : List ℕ) → most ≤ more → every (λ n. leb n most) counts ≡ true → every (λ n. leb n more) counts ≡ true
+each-at-most most more counts up ok =
+    every-by (λ n. leb n more) counts 0
+    (λ k h. le-leb (getD counts k 0) more (omega (arith, leb-true (getD counts k 0) most (every-at (λ n. leb n most) counts 0 k ok h))))
 
 module _ (counts : List ℕ) (responses : List Float) (ch : ℕ) (long : length responses ≡ total counts * 65) (h : ch < length counts) where
   -- a channel's responses end within the whole

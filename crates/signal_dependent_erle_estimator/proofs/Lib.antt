@@ -1,0 +1,3 @@
+pub mod Judged
+pub mod After
+pub mod Updates

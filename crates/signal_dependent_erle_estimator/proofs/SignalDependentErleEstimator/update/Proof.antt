@@ -1,0 +1,70 @@
+use borrow.Author.Needs.{needs}
+use borrow.Author.Tests.{eqb-true, ltb-true}
+use mathlib.Core.Path.{_≡_, _∙_, sym}
+use mathlib.Core.Bool.{true}
+use lib.Dec.{eqb, ltb}
+use Rattle.aec3_common.specs.Refusal.{accepted}
+use Rattle.aec3_common.proofs.Choices.{and-left, and-right, cond-neither}
+use Rattle.signal_dependent_erle_estimator.specs.SignalDependent.{Update, updateRefusal, updated, moved, updateAnswer}
+use Rattle.signal_dependent_erle_estimator.proofs.Judged.{settings-passed}
+use Rattle.signal_dependent_erle_estimator.proofs.SignalDependentErleEstimator.update.Statement.{statement}
+use Rattle.signal_dependent_erle_estimator.proofs.SignalDependentErleEstimator.update.Tie as tie
+
+-- what is lent
+abbrev call : tie.Start → Update
+call c =
+    let a = c .args in
+    record {
+      channels = a .num-capture-channels;
+      ring = a .ring;
+      spectra = a .spectra .now;
+      counts = a .response-blocks .now;
+      responses = a .responses .now;
+      render = a .x2 .now;
+      capture = a .y2 .now;
+      residual = a .e2 .now;
+      average = a .average .now;
+      averageCompensated = a .average-compensated .now;
+      converged = a .converged-filters .now;
+    }
+
+update-refusal-requires : tie.Need-update-refusal-requires
+update-refusal-requires c κs = λ ok. settings-passed (c .before .before .before .before .before .before .before .before .before .before .before .args .self) (sym (c .ok .ensures) ∙ ok)
+
+-- the call is judged
+refused-by :
+    (c : tie.After-update-refusal)
+    → let start = c .before .before .before .before .before .before .before .before .before .before .before .before in c .update-refusal .result ≡ updateRefusal (start .args .self) (call start)
+unfolding updateRefusal
+refused-by c = c .update-refusal .ensures ∙ simp (c .before .ok .ensures)
+
+-- and accepted, with two sections or more
+accepted-call :
+    (c : tie.Then1)
+    → let start = c .before .before .before .before .before .before .before .before .before .before .before .before .before .before in
+    (eqb (updateRefusal (start .args .self) (call start)) accepted ≡ true) × (ltb 1 (start .args .self .settings .«num_sections») ≡ true)
+accepted-call c =
+    let start = c .before .before .before .before .before .before .before .before .before .before .before .before .before .before in
+    let n = updateRefusal (start .args .self) (call start) in
+    let both = rw (refused-by (c .before .before)) at (c .if1 .taken) in
+    (and-left (eqb n accepted) _ both, and-right (eqb n accepted) _ both)
+
+updated-requires : tie.Need-updated-requires
+updated-requires c κs = (ltb-true 1 _ (accepted-call c .1), eqb-true _ accepted (accepted-call c .0))
+
+returns : tie.Need-returns
+unfolding updateAnswer moved
+returns c = simp (c .updated .ensures, refused-by (c .before .before .before), accepted-call (c .before) .0, accepted-call (c .before) .1)
+
+returns-2 : tie.Need-returns-2
+unfolding updateAnswer moved
+returns-2 c =
+    let start = c .before .before .before .before .before .before .before .before .before .before .before .before .before .before in
+    let s = start .args .self in
+    let n = updateRefusal s (call start) in
+    let judged = refused-by (c .before .before) in
+    let stays = cond-neither (eqb n accepted) (ltb 1 (s .settings .«num_sections»)) (updated s (call start)) s (rw judged at (c .if1 .left)) in
+    λ i. record { state = stays i; refused = judged i }
+
+pub update-spec : {M : Type 1} → statement M
+update-spec = tie.close (tie.spec (λ c κs. search needs) update-refusal-requires updated-requires returns returns-2)

@@ -1,0 +1,20 @@
+use borrow.Author.Needs.{needs}
+use Rattle.signal_dependent_erle_estimator.specs.SignalDependent.{allLentOk}
+use Rattle.signal_dependent_erle_estimator.proofs.judge.all_lent_ok.Statement.{statement}
+use Rattle.signal_dependent_erle_estimator.proofs.judge.all_lent_ok.Tie as tie
+
+returns : tie.Need-returns
+unfolding allLentOk
+returns c =
+    simp (
+      c .values-ok4 .ensures,
+      c .before .values-ok3 .ensures,
+      c .before .before .values-ok2 .ensures,
+      c .before .before .before .values-ok .ensures,
+      c .before .before .before .before .all-values-ok .ensures,
+    )
+
+pub all-lent-ok-spec : {M : Type 1} → statement M
+all-lent-ok-spec =
+    tie.close
+    (tie.spec (λ c κs. search needs) (λ c κs. search needs) (λ c κs. search needs) (λ c κs. search needs) (λ c κs. search needs) returns)

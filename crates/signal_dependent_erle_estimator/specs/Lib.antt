@@ -1,0 +1,3 @@
+pub mod Channel
+pub mod Runs
+pub mod SignalDependent

@@ -1,0 +1,214 @@
+-- The signal-dependent estimator: start, update and reset, and the calls that are turned away.
+use mathlib.Core.Bool.{Bool, true, false, cond, _&&_}
+use mathlib.Core.List.{List, []}
+use Prim.Native.Nat.{ℕ, zero, suc, _*_}
+use lib.Dec.{leb, ltb, eqb}
+use lib.Ieee.{Float}
+use lib.ListN.{length, getD, take}
+use Rattle.aec3_common.specs.Binary32.{zero32, valuesOk}
+use Rattle.aec3_common.specs.Calls.{lengthsOk, valuesInRange}
+use Rattle.aec3_common.specs.Lists.{tab, every}
+use Rattle.aec3_common.specs.Refusal.{unless, firstOf, accepted, badChannelCount, badRing, badLength, badValue, badPlace, badState, otherChannelCount}
+use Rattle.aec3_common.specs.Settings.{maxCaptureChannels, headroomBlocks, renderChannelsOk, sectionedSettingsRefusal}
+use Rattle.aec3_common.specs.Spectra.{part}
+use Rattle.spectrum_buffer.specs.Ring.{slotsOk, placeOk}
+use Rattle.filter_sections.specs.Sections.{sectionsAnswer}
+use Rattle.section_echoes.specs.declared.RenderRing.{RenderRing}
+use Rattle.section_echoes.specs.Walk.{slotLength}
+use Rattle.section_echoes.specs.Packed.{total, responsesOf}
+use Rattle.section_echoes.specs.Echoes.{activeSections}
+use Rattle.correction_factors.specs.Factors.{subbandSums}
+use Rattle.signal_dependent_erle_estimator.specs.declared.settings.SignalDependentSettings.{SignalDependentSettings}
+use Rattle.signal_dependent_erle_estimator.specs.declared.channel.SignalDependentChannel.{SignalDependentChannel}
+use Rattle.signal_dependent_erle_estimator.specs.declared.SignalDependentErleEstimator.{SignalDependentErleEstimator}
+use Rattle.signal_dependent_erle_estimator.specs.declared.SignalDependentAnswer.{SignalDependentAnswer}
+use Rattle.signal_dependent_erle_estimator.specs.Channel.{Lent, freshChannel, channelAfter}
+
+-- What an update is lent: the call's channel count; the ring and its spectra; the number of response blocks of each channel and
+-- the responses, packed; render, capture and residual power; the subband estimator's two streams; the flags.
+pub record Update : Type 0 where
+  pub channels : ℕ
+  pub ring : RenderRing
+  pub spectra : List Float
+  pub counts : List ℕ
+  pub responses : List Float
+  pub render : List Float
+  pub capture : List Float
+  pub residual : List Float
+  pub average : List Float
+  pub averageCompensated : List Float
+  pub converged : List Bool
+
+-- ---- calls turned away
+
+-- the first of 1, 2 and 3 that the settings break, or 0
+unfoldable pub settingsRefusal : SignalDependentSettings → ℕ
+settingsRefusal s =
+    sectionedSettingsRefusal (s .min) (s .«max_l») (s .«max_h») (s .«num_capture_channels»)
+    (s .«num_sections») (s .«filter_length_blocks») (s .«delay_headroom_samples»)
+
+-- the boundaries that the settings give, zeros behind them
+unfoldable pub boundariesOf : SignalDependentSettings → List ℕ
+boundariesOf s = sectionsAnswer (s .«num_sections») (s .«filter_length_blocks») (s .«delay_headroom_samples») .boundaries
+
+-- whether two lists have the same first n numbers
+unfoldable pub sameFirst : ℕ → List ℕ → List ℕ → Bool
+sameFirst zero xs ys = true
+sameFirst (suc n) xs ys = sameFirst n xs ys && eqb (getD xs n 0) (getD ys n 0)
+
+-- every active section is below the section count
+unfoldable pub channelOk : ℕ → SignalDependentChannel → Bool
+channelOk sections c = every (λ n. ltb n sections) (c .«n_active_sections»)
+
+-- Number 20: the settings break none of 1, 2 and 3, the section boundaries are those that the settings give, and each of the
+-- state's channels passes. Records beyond them are not judged, nor numbers behind the last boundary.
+unfoldable pub stateOk : SignalDependentErleEstimator → Bool
+stateOk s =
+    let g = s .settings in
+    eqb (settingsRefusal g) accepted
+    && sameFirst (suc (g .«num_sections»)) (s .«section_boundaries_blocks») (boundariesOf g)
+    && every (channelOk (g .«num_sections»)) (take (g .«num_capture_channels») (s .channels))
+
+-- a reset is turned away under 20 alone
+unfoldable pub stateRefusal : SignalDependentErleEstimator → ℕ
+stateRefusal s = unless (stateOk s) badState accepted
+
+-- number 4: the slots are in their range, and the headroom blocks are not above them
+abbrev pub slotsReach : ℕ → ℕ → Bool
+slotsReach slots headroom = slotsOk slots && leb headroom slots
+
+-- the first of 2, 4 and 9 that a ring breaks, or 0
+unfoldable pub ringRefusal : ℕ → RenderRing → ℕ
+ringRefusal headroom ring =
+    unless (renderChannelsOk (ring .channels)) badChannelCount
+    (unless (slotsReach (ring .slots) headroom) badRing
+    (unless (placeOk (ring .slots) (ring .position)) badPlace
+    accepted))
+
+-- a count of response blocks for each channel, none above the filter length, and 65 numbers for each block
+unfoldable pub responsesOk : ℕ → ℕ → List ℕ → List Float → Bool
+responsesOk channels filterLength counts responses =
+    eqb (length counts) channels && every (λ n. leb n filterLength) counts && eqb (length responses) (total counts * 65)
+
+-- number 5, of all that is lent
+unfoldable pub allLengthsOk : ℕ → Update → Bool
+allLengthsOk filterLength u =
+    lengthsOk (u .channels) (u .converged) (u .render) (u .capture) (u .residual)
+    && eqb (length (u .average)) (u .channels * 65)
+    && eqb (length (u .averageCompensated)) (u .channels * 65)
+    && eqb (length (u .spectra)) (u .ring .slots * slotLength (u .ring .channels))
+    && responsesOk (u .channels) filterLength (u .counts) (u .responses)
+
+-- number 6, of all that is lent; a lent average is judged as a spectrum value
+unfoldable pub allLentOk : List Float → List Float → List Float → List Float → List Float → List Float → List Float → Bool
+allLentOk spectra responses render capture residual average averageCompensated =
+    valuesInRange render capture residual
+    && valuesOk average
+    && valuesOk averageCompensated
+    && valuesOk spectra
+    && valuesOk responses
+
+-- The first of 20, 21, 2, 4, 9, 5 and 6, or 0. The state is told by whether number 20 lets it pass, and by its settings.
+unfoldable pub refusalOf : Bool → SignalDependentSettings → Update → ℕ
+refusalOf stateOk g u =
+    unless stateOk badState
+    (unless (eqb (u .channels) (g .«num_capture_channels»)) otherChannelCount
+    (firstOf (ringRefusal (headroomBlocks (g .«delay_headroom_samples»)) (u .ring))
+    (unless (allLengthsOk (g .«filter_length_blocks») u) badLength
+    (unless (allLentOk (u .spectra) (u .responses) (u .render) (u .capture) (u .residual) (u .average) (u .averageCompensated)) badValue
+    accepted))))
+
+unfoldable pub updateRefusal : SignalDependentErleEstimator → Update → ℕ
+updateRefusal s u = refusalOf (stateOk s) (s .settings) u
+
+-- ---- start, reset, update
+
+-- a start fills all four records
+unfoldable pub started : SignalDependentSettings → SignalDependentErleEstimator
+started s =
+    record {
+      settings = s;
+      «section_boundaries_blocks» = boundariesOf s;
+      channels = tab maxCaptureChannels (λ ch. freshChannel (s .min));
+    }
+
+-- what a refused start answers with: settings that number 20 turns away
+unfoldable pub refusedSettings : SignalDependentSettings
+refusedSettings =
+    record {
+      min = zero32;
+      «max_l» = zero32;
+      «max_h» = zero32;
+      «onset_detection» = false;
+      «num_capture_channels» = 0;
+      «num_sections» = 0;
+      «filter_length_blocks» = 0;
+      «delay_headroom_samples» = 0;
+    }
+
+unfoldable pub startAnswer : SignalDependentSettings → SignalDependentAnswer
+startAnswer s =
+    let n = settingsRefusal s in
+    record { state = started (cond (eqb n accepted) s refusedSettings); refused = n }
+
+-- a reset leaves what a start with the state's settings gives
+unfoldable pub resetAnswer : SignalDependentErleEstimator → SignalDependentAnswer
+resetAnswer s =
+    let n = stateRefusal s in
+    record { state = cond (eqb n accepted) (started (s .settings)) s; refused = n }
+
+-- what stands where a list of channels has no record
+abbrev pub noChannel : SignalDependentChannel
+noChannel =
+    record {
+      erle = [];
+      «erle_onset_compensated» = [];
+      corrections =
+          record { «erle_estimators» = []; «erle_ref» = []; «correction_factors» = []; «num_updates» = [] };
+      «n_active_sections» = [];
+    }
+
+abbrev pub channelAt : SignalDependentErleEstimator → ℕ → SignalDependentChannel
+channelAt s ch = getD (s .channels) ch noChannel
+
+-- the active section of each band of a channel
+unfoldable pub activeOf : SignalDependentErleEstimator → Update → ℕ → List ℕ
+activeOf s u ch =
+    let g = s .settings in
+    activeSections (u .ring) (u .spectra) (headroomBlocks (g .«delay_headroom_samples»)) (s .«section_boundaries_blocks»)
+    (g .«num_sections») (getD (u .counts) ch 0) (responsesOf (u .counts) (u .responses) ch)
+
+-- what a channel is lent
+abbrev pub lentTo : Update → ℕ → Lent
+lentTo u ch =
+    record {
+      converged = getD (u .converged) ch false;
+      capture = part (u .capture) ch;
+      residual = part (u .residual) ch;
+      average = part (u .average) ch;
+      averageCompensated = part (u .averageCompensated) ch;
+    }
+
+-- an update moves the state's channels; records beyond them stay
+unfoldable pub updated : SignalDependentErleEstimator → Update → SignalDependentErleEstimator
+updated s u =
+    record {
+      settings = s .settings;
+      «section_boundaries_blocks» = s .«section_boundaries_blocks»;
+      channels =
+          tab maxCaptureChannels
+          (λ ch.
+          cond (ltb ch (s .settings .«num_capture_channels»))
+          (channelAfter (s .settings) (activeOf s u ch) (subbandSums (u .render)) (lentTo u ch) (channelAt s ch))
+          (channelAt s ch));
+    }
+
+-- With one section an update changes nothing.
+unfoldable pub moved : SignalDependentErleEstimator → Update → SignalDependentErleEstimator
+moved s u = cond (ltb 1 (s .settings .«num_sections»)) (updated s u) s
+
+-- The answer: the next state and 0, or the state as it was and the refusal.
+unfoldable pub updateAnswer : SignalDependentErleEstimator → Update → SignalDependentAnswer
+updateAnswer s u =
+    let n = updateRefusal s u in
+    record { state = cond (eqb n accepted) (moved s u) s; refused = n }
