@@ -1,3 +1,4 @@
 pub mod Judged
 pub mod After
 pub mod Updates
+pub mod Runs

@@ -1,11 +1,12 @@
 -- Lists of calls: the state that they leave is taken up again.
 use mathlib.Core.Path.{_≡_}
-use mathlib.Core.List.{List, [], _∷_}
+use mathlib.Core.List.{List}
+use Rattle.aec3_common.specs.Calls.{runBy}
 use Rattle.aec3_common.specs.Refusal.{accepted, badState}
 use Rattle.signal_dependent_erle_estimator.specs.declared.settings.SignalDependentSettings.{SignalDependentSettings}
 use Rattle.signal_dependent_erle_estimator.specs.declared.SignalDependentErleEstimator.{SignalDependentErleEstimator}
 use Rattle.signal_dependent_erle_estimator.specs.declared.SignalDependentAnswer.{SignalDependentAnswer}
-use Rattle.signal_dependent_erle_estimator.specs.SignalDependent.{Update, stateRefusal, startAnswer, resetAnswer, updateAnswer}
+use Rattle.signal_dependent_erle_estimator.specs.SignalDependent.{Update, startAnswer, resetAnswer, updateAnswer}
 
 -- a call, accepted or refused: an update or a reset
 pub data Call : Type 0 where
@@ -19,8 +20,7 @@ answer s reset = resetAnswer s
 
 -- each call takes up the state that the last one left; a refused one passes on what it got
 unfoldable pub run : SignalDependentErleEstimator → List Call → SignalDependentErleEstimator
-run s [] = s
-run s (c ∷ cs) = run (answer s c .state) cs
+run s calls = runBy (λ t c. answer t c .state) s calls
 
 -- Claim: after an accepted start and any list of updates and resets, refused calls among them, no call is refused under 20.
 unfoldable pub NeverBadState : Type 0

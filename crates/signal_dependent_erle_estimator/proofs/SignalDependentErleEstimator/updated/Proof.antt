@@ -96,15 +96,14 @@ subband-sums-requires : tie.Need-subband-sums-requires Inv-loop μ-loop
 subband-sums-requires c κs = accepted-call (c .before .before .before .before .before .before .before .before .before .before .before .before .before .before) .render
 
 loop-holds : tie.Need-loop-holds Inv-loop μ-loop
-loop-holds c =
-    (
-      omega arith,
-      record {
-        settings = refl;
-        boundaries = refl;
-        stored = stored-none _ _ _ _ _ (omega arith) (four (c .before .before .before .before .before .before .before .before .before .before .before .before .before .before .before));
-      },
-    )
+loop-holds c = (
+  omega arith,
+  record {
+    settings = refl;
+    boundaries = refl;
+    stored = stored-none _ _ _ _ _ (omega arith) (four (c .before .before .before .before .before .before .before .before .before .before .before .before .before .before .before));
+  },
+)
 
 -- the function's entry, from a turn of the loop
 abbrev entry : tie.In-loop Inv-loop μ-loop → tie.Start Inv-loop μ-loop
