@@ -38,7 +38,7 @@ unfoldable pub leastFrom : ℕ → List ℕ → ℕ
 leastFrom n [] = n
 leastFrom n (m ∷ ms) = leastFrom (cond (ltb m n) m n) ms
 
--- the least active section of a subband's bands
+-- the least active section of a subband's bands; none is above the last section
 unfoldable pub leastActive : ℕ → List ℕ → ℕ → ℕ
 leastActive sections active subband = leastFrom (sections - 1) (ofSubband 0 active subband)
 

@@ -5,7 +5,7 @@ use filter_sections::max_erle;
 use filter_sections::subband_bands;
 ghost use mathlib.Core.Path.{_≡_};
 ghost use Prim.Native.Nat.{ℕ, _≤_, _<_};
-ghost use lib.Ieee.{nan, binary32, mul};
+ghost use lib.Ieee.{binary32, mul};
 ghost use lib.ListN.{length, getD};
 ghost use Rattle.aec3_common.specs.Binary32.{clamped};
 ghost use Rattle.filter_sections.specs.Subbands.{maxErle};

@@ -12,7 +12,7 @@ use lib.ListN.{getD}
 use Rattle.aec3_common.specs.Binary32.{zero32}
 use Rattle.aec3_common.proofs.Tables.{getD-tab, tab-same}
 use Rattle.section_echoes.specs.declared.RenderRing.{RenderRing}
-use Rattle.section_echoes.specs.Echoes.{sectionRender, sectionResponse, echoSum, reached, leastReached, activeSection, activeSections}
+use Rattle.section_echoes.specs.Echoes.{sectionRender, sectionEcho, echoSum, reached, leastReached, activeSection, activeSections}
 use Rattle.section_echoes.specs.Steps.{bands, firstSections, renderSums, sumAt, echoSums}
 
 -- what stands at one of the sections
@@ -24,13 +24,10 @@ first-at sections f s k few h b =
     ∙ rw (lt-ltb s sections h)
 
 -- an echo sum reads the sections up to its own
-echo-same :
-    (render other response : ℕ → Float) (s : ℕ) → ((t : ℕ) → t ≤ s → render t ≡ other t)
-    → echoSum render response s ≡ echoSum other response s
+echo-same : (echo other : ℕ → Float) (s : ℕ) → ((t : ℕ) → t ≤ s → echo t ≡ other t) → echoSum echo s ≡ echoSum other s
 unfolding echoSum
-echo-same render other response zero same = rw (same zero (le-refl zero))
-echo-same render other response (suc s) same =
-    rw (same (suc s) (le-refl (suc s)), echo-same render other response s (λ t h. same t (omega arith)))
+echo-same echo other zero same = same zero (le-refl zero)
+echo-same echo other (suc s) same = rw (same (suc s) (le-refl (suc s)), echo-same echo other s (λ t h. same t (omega arith)))
 
 -- the walk reads the sections below its end
 least-same : (p q : ℕ → Bool) (n : ℕ) → ((t : ℕ) → t < n → p t ≡ q t) → leastReached p n ≡ leastReached q n
@@ -51,12 +48,12 @@ module _ (ring : RenderRing) (spectra : List Float) (headroom : ℕ) (boundaries
   echo-is :
       (s k : ℕ) → sections ≤ 8 → s < sections → k < 65
       → sumAt (echoSums (renderSums ring spectra headroom boundaries sections count) responses boundaries sections count) s k
-      ≡ echoSum (λ t. sectionRender ring spectra headroom boundaries count t k) (λ t. sectionResponse responses boundaries count t k) s
-  unfolding echoSums renderSums
+      ≡ echoSum (λ t. sectionEcho ring spectra headroom boundaries count responses t k) s
+  unfolding echoSums renderSums sectionEcho
   echo-is s k few h b =
       first-at sections _ s k few h b
-      ∙ echo-same _ _ (λ t. sectionResponse responses boundaries count t k) s
-      (λ t below. first-at sections (sectionRender ring spectra headroom boundaries count) t k few (omega arith) b)
+      ∙ echo-same _ _ s
+      (λ t below. rw (first-at sections (sectionRender ring spectra headroom boundaries count) t k few (omega arith) b))
 
   -- what active_sections makes of echo_sums, and that of render_sums, is the definition's
   pub active-sections-are :

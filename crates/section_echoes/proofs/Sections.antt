@@ -57,7 +57,7 @@ module _ (boundaries : List ℕ) (count s : ℕ) {to : ℕ} (end : to ≡ fewer 
 module _ (render : List (List Float)) (responses : List Float) (boundaries : List ℕ) (count : ℕ) where
   -- the echo sum of a section in a band
   abbrev pub echoAt : ℕ → ℕ → Float
-  echoAt s k = echoSum (λ t. sumAt render t k) (λ t. sectionResponse responses boundaries count t k) s
+  echoAt s k = echoSum (λ t. mul binary32 (sumAt render t k) (sectionResponse responses boundaries count t k)) s
 
   pub echo-first :
       {response r : List Float} → response ≡ bands (sectionResponse responses boundaries count 0)

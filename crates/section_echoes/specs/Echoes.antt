@@ -2,7 +2,7 @@
 use mathlib.Core.Bool.{Bool, cond}
 use mathlib.Core.List.{List}
 use Prim.Native.Nat.{ℕ, zero, suc, _+_, _-_, _*_}
-use lib.Dec.{leb, ltb}
+use lib.Dec.{ltb}
 use lib.Ieee.{Float, binary32, ofBits, add, mul, div, le}
 use lib.ListN.{getD}
 use Rattle.aec3_common.specs.Binary32.{zero32, one32}
@@ -43,9 +43,9 @@ fewer a b = cond (ltb b a) b a
 abbrev pub sectionBegin : List ℕ → ℕ → ℕ
 sectionBegin boundaries section = getD boundaries section 0
 
--- and go to below the next one; blocks without a response are skipped
+-- and go to below the next one; so many of them have a response, the others are skipped
 abbrev pub sectionBlocks : List ℕ → ℕ → ℕ → ℕ
-sectionBlocks boundaries count section = fewer (getD boundaries (section + 1) 0) count - getD boundaries section 0
+sectionBlocks boundaries count section = fewer (sectionBegin boundaries (section + 1)) count - sectionBegin boundaries section
 
 -- the render power of a section's blocks, where a channel has so many responses
 unfoldable pub sectionRender : RenderRing → List Float → ℕ → List ℕ → ℕ → ℕ → ℕ → Float
@@ -56,11 +56,15 @@ unfoldable pub sectionResponse : List Float → List ℕ → ℕ → ℕ → ℕ
 sectionResponse responses boundaries count section k =
     responseSum responses (sectionBegin boundaries section) (sectionBlocks boundaries count section) k
 
--- The echoes of sections, each (sum of render) times (sum of responses), summed on over the sections.
-unfoldable pub echoSum : (ℕ → Float) → (ℕ → Float) → ℕ → Float
-echoSum render response zero = mul binary32 (render zero) (response zero)
-echoSum render response (suc s) =
-    add binary32 (mul binary32 (render (suc s)) (response (suc s))) (echoSum render response s)
+-- The echo of a section: (sum of render) times (sum of responses).
+unfoldable pub sectionEcho : RenderRing → List Float → ℕ → List ℕ → ℕ → List Float → ℕ → ℕ → Float
+sectionEcho ring spectra headroom boundaries count responses section k =
+    mul binary32 (sectionRender ring spectra headroom boundaries count section k) (sectionResponse responses boundaries count section k)
+
+-- The echoes of the sections up to one, summed on over the sections.
+unfoldable pub echoSum : (ℕ → Float) → ℕ → Float
+echoSum echo zero = echo zero
+echoSum echo (suc s) = add binary32 (echo (suc s)) (echoSum echo s)
 
 -- ---- the active section
 
@@ -72,13 +76,13 @@ activeShare = ofBits binary32 0x3f66_6666
 abbrev pub reached : ℕ → (ℕ → Float) → ℕ → Bool
 reached sections sums section = le (mul binary32 activeShare (sums (sections - 1))) (sums section)
 
--- from below n down, the least section reached without a gap; n where the first of them is not
+-- from below n down, the least section reached without a gap; n where section n - 1 is not reached
 unfoldable pub leastReached : (ℕ → Bool) → ℕ → ℕ
 leastReached isReached zero = zero
 leastReached isReached (suc n) = cond (isReached n) (leastReached isReached n) (suc n)
 
--- The active section: from the last section down, the least reached without a gap. Where not even the last is, which only sums
--- with a NaN could show, it is 0, as in the source.
+-- The active section: from the last section down, the least reached without a gap. Where not even the last is, which no sums of
+-- powers show, it is 0, as in the source.
 unfoldable pub activeSection : ℕ → (ℕ → Float) → ℕ
 activeSection sections sums =
     let least = leastReached (reached sections sums) sections in
@@ -89,7 +93,4 @@ unfoldable pub activeSections : RenderRing → List Float → ℕ → List ℕ �
 activeSections ring spectra headroom boundaries sections count responses =
     tab 65
     (λ k.
-    activeSection sections
-    (echoSum
-    (λ s. sectionRender ring spectra headroom boundaries count s k)
-    (λ s. sectionResponse responses boundaries count s k)))
+    activeSection sections (echoSum (λ s. sectionEcho ring spectra headroom boundaries count responses s k)))

@@ -1,17 +1,17 @@
 -- What inner functions of the code promise or ask; no part of the definition.
 use mathlib.Core.Path.{_≡_}
-use mathlib.Core.Bool.{Bool, cond}
+use mathlib.Core.Bool.{cond}
 use mathlib.Core.List.{List, []}
-use Prim.Native.Nat.{ℕ, _+_, _-_, _*_, _≤_, _<_}
+use Prim.Native.Nat.{ℕ, _+_, _*_, _≤_, _<_}
 use lib.Dec.{ltb}
-use lib.Ieee.{Float, nan, binary32, add, mul, le}
+use lib.Ieee.{Float, nan, binary32, add, mul}
 use lib.ListN.{length, getD, take, drop}
 use Rattle.aec3_common.specs.Binary32.{zero32}
 use Rattle.aec3_common.specs.Lists.{tab}
 use Rattle.aec3_common.specs.Spectra.{sumFrom}
 use Rattle.section_echoes.specs.declared.RenderRing.{RenderRing}
 use Rattle.section_echoes.specs.Walk.{walkedPlace, slotLength}
-use Rattle.section_echoes.specs.Echoes.{activeShare, sectionRender, sectionResponse, echoSum, activeSections}
+use Rattle.section_echoes.specs.Echoes.{sectionRender, sectionResponse, echoSum, activeSections}
 use Rattle.section_echoes.specs.Packed.{responsesOf}
 
 -- 65 entries
@@ -58,7 +58,7 @@ sumAt sums s k = getD (getD sums s []) k nan
 unfoldable pub echoSums : List (List Float) → List Float → List ℕ → ℕ → ℕ → List (List Float)
 echoSums render responses boundaries sections count =
     firstSections sections
-    (λ s k. echoSum (λ t. sumAt render t k) (λ t. sectionResponse responses boundaries count t k) s)
+    (λ s k. echoSum (λ t. mul binary32 (sumAt render t k) (sectionResponse responses boundaries count t k)) s)
 
 -- what makes a ring safe to walk: its place is one of its slots, and its spectra have the length that its counts ask
 pub record RingFits (ring : RenderRing) (spectra : List Float) : Type 0 where

@@ -1,5 +1,4 @@
 -- Which slot of the ring each block of the filter reads.
-use mathlib.Core.List.{List}
 use Prim.Native.Nat.{ℕ, zero, suc, _-_, _*_}
 use lib.IntN.{pos}
 use Rattle.spectrum_buffer.specs.Ring.{nextPlace, offsetPlace}
@@ -9,8 +8,8 @@ unfoldable pub placeOn : ℕ → ℕ → ℕ → ℕ
 placeOn slots place zero = place
 placeOn slots place (suc n) = nextPlace slots (placeOn slots place n)
 
--- The ring walk begins headroom blocks after the read place, with the filter's block that stands there, and goes one place on
--- with each block.
+-- The ring walk begins headroom blocks after the read place, where the filter's block of that number reads; each later block reads
+-- the next place.
 unfoldable pub walkedPlace : ℕ → ℕ → ℕ → ℕ → ℕ
 walkedPlace slots position headroom block = placeOn slots (offsetPlace slots position (pos headroom)) (block - headroom)
 

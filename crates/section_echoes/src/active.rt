@@ -19,7 +19,7 @@ fn targets(totals: &[f32; 65]) -> [f32; 65]
     r
 }
 
-// The section that a band keeps, or the next one where a sum is not at least its target.
+// The section that stands where a sum is at least its target, else another one.
 fn section_beside(section: u32, sum: f32, target: f32, next: u32) -> u32
     ensures { λ r. ⌜ r ≡ cond (le target sum) section next ⌝ }
 {

@@ -7,7 +7,7 @@ ghost use mathlib.Core.Path.{_≡_};
 ghost use mathlib.Core.Bool.{true};
 ghost use Prim.Native.Nat.{_*_, _≤_, _<_};
 ghost use lib.Dec.{leb};
-ghost use lib.ListN.{length, getD};
+ghost use lib.ListN.{length};
 ghost use Rattle.aec3_common.specs.Lists.{every};
 ghost use Rattle.section_echoes.specs.Packed.{total};
 ghost use Rattle.section_echoes.specs.Steps.{RingFits, renderSums, allActive};
@@ -33,7 +33,8 @@ fn renew_render_sums(
     }
 }
 
-// The active section of each band, channel by channel; zeros behind the last.
+// The active section of each band, channel by channel; zeros behind the last. The render sums begin as zeros, which are those for no
+// responses.
 pub fn all_active_sections(
     ring: RenderRing,
     spectra: &[f32],

@@ -30,7 +30,7 @@ fn section_response(responses: &[f32], from: usize, to: usize) -> [f32; 65]
     sums
 }
 
-// The first section's echoes.
+// Section by section, (sum of render) times (sum of responses). The first section's echoes are its echo sums.
 fn echoes(render: &[f32; 65], response: &[f32; 65]) -> [f32; 65]
     ensures { λ r. ⌜ r ≡ bands (λ k. mul binary32 (getD (now (render .entry)) k nan) (getD (now (response .entry)) k nan)) ⌝ }
 {
@@ -41,7 +41,7 @@ fn echoes(render: &[f32; 65], response: &[f32; 65]) -> [f32; 65]
     r
 }
 
-// A later section's, on top of the sums before it.
+// A later section's echo sums are its echoes, added to the sums before it.
 fn echoes_on(render: &[f32; 65], response: &[f32; 65], before: &[f32; 65]) -> [f32; 65]
     ensures { λ r. ⌜ r ≡ bands (λ k. add binary32 (mul binary32 (getD (now (render .entry)) k nan) (getD (now (response .entry)) k nan)) (getD (now (before .entry)) k nan)) ⌝ }
 {

@@ -7,8 +7,8 @@ mod walk;
 
 pub use channels::all_active_sections;
 
-// How the ring of render spectra is lent and read: so many slots of so many channels, 65 numbers each, slot by slot and channel
-// by channel; the filter's first block reads at position.
+// How the ring of render spectra is lent: so many slots of so many channels, 65 numbers each, slot by slot and channel by channel;
+// position is the read place, one of the slots.
 pub struct RenderRing {
     pub slots: usize,
     pub channels: usize,

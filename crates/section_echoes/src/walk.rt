@@ -6,8 +6,8 @@ ghost use mathlib.Core.Path.{_≡_};
 ghost use Prim.Native.Nat.{_≤_, _<_};
 ghost use Rattle.section_echoes.specs.Steps.{walkedPositions};
 
-// Where these slots begin in the spectra, by block. The walk begins headroom blocks after the read place; blocks before it, which
-// no section has, are given its first slot.
+// Where the slot that each block reads begins in the spectra. The walk begins headroom blocks after the read place; blocks before
+// that, which no section has, are given its first slot.
 pub fn walked_positions(ring: RenderRing, headroom: usize) -> [usize; 16]
     requires { ⌜ (ring .position < ring .slots) × (ring .slots ≤ 32) × (ring .channels ≤ 2) × (headroom < 16) ⌝ }
     ensures { λ r. ⌜ r ≡ walkedPositions ring headroom ⌝ }

@@ -23,7 +23,7 @@ use Rattle.section_echoes.specs.Walk.{slotLength}
 use Rattle.section_echoes.proofs.Packed.{each-at-most}
 use Rattle.signal_dependent_erle_estimator.specs.declared.settings.SignalDependentSettings.{SignalDependentSettings}
 use Rattle.signal_dependent_erle_estimator.specs.declared.SignalDependentErleEstimator.{SignalDependentErleEstimator}
-use Rattle.signal_dependent_erle_estimator.specs.SignalDependent.{Update, settingsRefusal, stateOk, slotsReach, ringRefusal, responsesOk, allLengthsOk, allLentOk, refusalOf, updateRefusal}
+use Rattle.signal_dependent_erle_estimator.specs.SignalDependent.{Update, settingsRefusal, stateOk, slotsReach, ringRefusal, responsesOk, allLengthsOk, allValuesOk, refusalOf, updateRefusal}
 
 -- ---- settings
 
@@ -112,7 +112,7 @@ update-passed s u e =
     let most = g .«filter_length_blocks» in
     let lengths = allLengthsOk most u in
     let values =
-    unless (allLentOk (u .spectra) (u .responses) (u .render) (u .capture) (u .residual) (u .average) (u .averageCompensated)) 6 0 in
+    unless (allValuesOk (u .spectra) (u .responses) (u .render) (u .capture) (u .residual) (u .average) (u .averageCompensated)) 6 0 in
     let after-lengths = unless lengths 5 values in
     let after-ring = firstOf ring after-lengths in
     let after-same = unless same 21 after-ring in

@@ -21,7 +21,7 @@ use Rattle.signal_dependent_erle_estimator.specs.declared.settings.Signa
 use Rattle.signal_dependent_erle_estimator.specs.declared.channel.SignalDependentChannel.{SignalDependentChannel}
 use Rattle.signal_dependent_erle_estimator.specs.declared.SignalDependentErleEstimator.{SignalDependentErleEstimator}
 use Rattle.signal_dependent_erle_estimator.specs.Channel.{freshChannel, channelAfter}
-use Rattle.signal_dependent_erle_estimator.specs.SignalDependent.{Update, settingsRefusal, boundariesOf, sameFirst, channelOk, stateOk, stateRefusal, slotsReach, ringRefusal, allLengthsOk, allLentOk, refusalOf, updateRefusal, started, startAnswer, resetAnswer, noChannel, channelAt, activeOf, lentTo, updated, moved, updateAnswer}
+use Rattle.signal_dependent_erle_estimator.specs.SignalDependent.{Update, settingsRefusal, boundariesOf, sameFirst, channelOk, stateOk, stateRefusal, slotsReach, ringRefusal, allLengthsOk, allValuesOk, refusalOf, updateRefusal, started, startAnswer, resetAnswer, noChannel, channelAt, activeOf, lentTo, updated, afterAccepted, updateAnswer}
 use Rattle.signal_dependent_erle_estimator.specs.Runs.{Call, update, reset, answer, run, NeverBadState}
 use Rattle.signal_dependent_erle_estimator.proofs.Judged.{few-captures, one-section}
 use Rattle.signal_dependent_erle_estimator.proofs.Updates.{active-within}
@@ -86,7 +86,7 @@ module _ (g : SignalDependentSettings) (passed : settingsRefusal g ≡ accepted)
       }
 
   answer-kept : (s : SignalDependentErleEstimator) (c : Call) → Kept g s → Kept g (answer s c .state)
-  unfolding answer updateAnswer moved resetAnswer
+  unfolding answer updateAnswer afterAccepted resetAnswer
   answer-kept s (update u) kept =
       cond-has (Kept g) (eqb (updateRefusal s u) accepted)
       (λ e. cond-has (Kept g) (ltb 1 (s .settings .«num_sections»)) (λ q. updated-kept s u kept) (λ q. kept))
@@ -116,7 +116,7 @@ update-not-20 : (g : SignalDependentSettings) (u : Update) → refusalOf true g 
 unfolding refusalOf ringRefusal
 update-not-20 g u =
     let headroom = headroomBlocks (g .«delay_headroom_samples») in
-    let values = allLentOk (u .spectra) (u .responses) (u .render) (u .capture) (u .residual) (u .average) (u .averageCompensated) in
+    let values = allValuesOk (u .spectra) (u .responses) (u .render) (u .capture) (u .residual) (u .average) (u .averageCompensated) in
     let lengths = allLengthsOk (g .«filter_length_blocks») u in
     let after-ring : unless lengths 5 (unless values 6 0) ≡ 20 → ⊥ =
     chain-not-20 lengths 5 (unless values 6 0) (λ e. omega arith) (chain-not-20 values 6 0 (λ e. omega arith) (λ e. omega arith)) in

@@ -13,7 +13,7 @@ use Rattle.aec3_common.specs.Settings.{headroomBlocks}
 use Rattle.aec3_common.proofs.Choices.{cond-same}
 use Rattle.aec3_common.proofs.Every.{every-by}
 use Rattle.aec3_common.proofs.Tables.{Stored, length-tab, getD-tab, getD-tab-first, tab-same, stored-more, stored-firsts}
-use Rattle.section_echoes.specs.Echoes.{activeSection, activeSections, echoSum, sectionRender, sectionResponse}
+use Rattle.section_echoes.specs.Echoes.{activeSection, activeSections, echoSum, sectionEcho}
 use Rattle.section_echoes.specs.Packed.{responsesOf}
 use Rattle.section_echoes.specs.Steps.{bands, allActive}
 use Rattle.section_echoes.proofs.Least.{active-below}
@@ -42,9 +42,7 @@ activeIn s u ch k =
     let boundaries = s .«section_boundaries_blocks» in
     let count = getD (u .counts) ch 0 in
     activeSection (g .«num_sections»)
-    (echoSum
-    (λ t. sectionRender (u .ring) (u .spectra) headroom boundaries count t k)
-    (λ t. sectionResponse (responsesOf (u .counts) (u .responses) ch) boundaries count t k))
+    (echoSum (λ t. sectionEcho (u .ring) (u .spectra) headroom boundaries count (responsesOf (u .counts) (u .responses) ch) t k))
 
 -- each is one of the sections
 pub active-within :

@@ -33,17 +33,18 @@ pub record Lent : Type 0 where
 
 -- A converged channel learns, by the active section of each band and the subband sums of render, capture and residual.
 unfoldable pub learntIf : SignalDependentSettings → List ℕ → List Float → Bool → List Float → List Float → CorrectionFactors → CorrectionFactors
-learntIf g active renders converged capture residual c =
+learntIf g active renderSums converged capture residual c =
     cond converged
     (learnt (g .min) (g .«max_l») (g .«max_h»)
-    (lessonOf (g .«num_sections») active renders (subbandSums capture) (subbandSums residual))
+    (lessonOf (g .«num_sections») active renderSums (subbandSums capture) (subbandSums residual))
     c)
     c
 
--- Every channel has new active sections and new streams, the compensated one only with onset detection on.
+-- Every channel has new active sections and new streams, the compensated one only with onset detection on. The subband sums of the
+-- render power are the same for every channel.
 unfoldable pub channelAfter : SignalDependentSettings → List ℕ → List Float → Lent → SignalDependentChannel → SignalDependentChannel
-channelAfter g active renders l c =
-    let learning = learntIf g active renders (l .converged) (l .capture) (l .residual) (c .corrections) in
+channelAfter g active renderSums l c =
+    let learning = learntIf g active renderSums (l .converged) (l .capture) (l .residual) (c .corrections) in
     let factors = learning .«correction_factors» in
     record {
       erle = corrected (g .min) (g .«max_l») (g .«max_h») factors active (l .average);

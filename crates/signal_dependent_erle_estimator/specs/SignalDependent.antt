@@ -24,8 +24,9 @@ use Rattle.signal_dependent_erle_estimator.specs.declared.SignalDependen
 use Rattle.signal_dependent_erle_estimator.specs.declared.SignalDependentAnswer.{SignalDependentAnswer}
 use Rattle.signal_dependent_erle_estimator.specs.Channel.{Lent, freshChannel, channelAfter}
 
--- What an update is lent: the call's channel count; the ring and its spectra; the number of response blocks of each channel and
--- the responses, packed; render, capture and residual power; the subband estimator's two streams; the flags.
+-- What an update is lent: the call's channel count; the ring and its spectra, which make the echoes; the number of response blocks of
+-- each channel and the responses, packed; the render power that learning looks at, apart from the ring's; capture and residual
+-- power; the subband estimator's two streams; the flags.
 pub record Update : Type 0 where
   pub channels : ℕ
   pub ring : RenderRing
@@ -100,22 +101,23 @@ allLengthsOk filterLength u =
     && responsesOk (u .channels) filterLength (u .counts) (u .responses)
 
 -- number 6, of all that is lent; a lent average is judged as a spectrum value
-unfoldable pub allLentOk : List Float → List Float → List Float → List Float → List Float → List Float → List Float → Bool
-allLentOk spectra responses render capture residual average averageCompensated =
+unfoldable pub allValuesOk : List Float → List Float → List Float → List Float → List Float → List Float → List Float → Bool
+allValuesOk spectra responses render capture residual average averageCompensated =
     valuesInRange render capture residual
     && valuesOk average
     && valuesOk averageCompensated
     && valuesOk spectra
     && valuesOk responses
 
--- The first of 20, 21, 2, 4, 9, 5 and 6, or 0. The state is told by whether number 20 lets it pass, and by its settings.
+-- The first of 20, 21, 2, 4, 9, 5 and 6, or 0. The state is told by whether number 20 lets it pass, and by its settings. 8 does
+-- not arise: the headroom blocks are the only offset, and 4 has judged them against the slots.
 unfoldable pub refusalOf : Bool → SignalDependentSettings → Update → ℕ
-refusalOf stateOk g u =
-    unless stateOk badState
+refusalOf passes20 g u =
+    unless passes20 badState
     (unless (eqb (u .channels) (g .«num_capture_channels»)) otherChannelCount
     (firstOf (ringRefusal (headroomBlocks (g .«delay_headroom_samples»)) (u .ring))
     (unless (allLengthsOk (g .«filter_length_blocks») u) badLength
-    (unless (allLentOk (u .spectra) (u .responses) (u .render) (u .capture) (u .residual) (u .average) (u .averageCompensated)) badValue
+    (unless (allValuesOk (u .spectra) (u .responses) (u .render) (u .capture) (u .residual) (u .average) (u .averageCompensated)) badValue
     accepted))))
 
 unfoldable pub updateRefusal : SignalDependentErleEstimator → Update → ℕ
@@ -171,7 +173,7 @@ noChannel =
 abbrev pub channelAt : SignalDependentErleEstimator → ℕ → SignalDependentChannel
 channelAt s ch = getD (s .channels) ch noChannel
 
--- the active section of each band of a channel
+-- the active sections of a channel, by what it is lent
 unfoldable pub activeOf : SignalDependentErleEstimator → Update → ℕ → List ℕ
 activeOf s u ch =
     let g = s .settings in
@@ -203,12 +205,12 @@ updated s u =
           (channelAt s ch));
     }
 
--- With one section an update changes nothing.
-unfoldable pub moved : SignalDependentErleEstimator → Update → SignalDependentErleEstimator
-moved s u = cond (ltb 1 (s .settings .«num_sections»)) (updated s u) s
+-- With one section an accepted update changes nothing.
+unfoldable pub afterAccepted : SignalDependentErleEstimator → Update → SignalDependentErleEstimator
+afterAccepted s u = cond (ltb 1 (s .settings .«num_sections»)) (updated s u) s
 
 -- The answer: the next state and 0, or the state as it was and the refusal.
 unfoldable pub updateAnswer : SignalDependentErleEstimator → Update → SignalDependentAnswer
 updateAnswer s u =
     let n = updateRefusal s u in
-    record { state = cond (eqb n accepted) (moved s u) s; refused = n }
+    record { state = cond (eqb n accepted) (afterAccepted s u) s; refused = n }

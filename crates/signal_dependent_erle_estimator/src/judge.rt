@@ -24,9 +24,9 @@ ghost use Rattle.aec3_common.specs.Lists.{every};
 ghost use Rattle.aec3_common.specs.Refusal.{accepted};
 ghost use Rattle.section_echoes.specs.Packed.{total};
 ghost use Rattle.section_echoes.specs.Walk.{slotLength};
-ghost use Rattle.signal_dependent_erle_estimator.specs.SignalDependent.{Update, settingsRefusal, slotsReach, ringRefusal, responsesOk, allLengthsOk, allLentOk, refusalOf};
+ghost use Rattle.signal_dependent_erle_estimator.specs.SignalDependent.{Update, settingsRefusal, slotsReach, ringRefusal, responsesOk, allLengthsOk, allValuesOk, refusalOf};
 
-// Number 4: so many slots can be, and the headroom is not above them.
+// Number 4: the slots are in their range, and the headroom blocks are not above them.
 fn slots_reach(slots: usize, headroom: usize) -> bool
     ensures { λ r. ⌜ r ≡ slotsReach slots headroom ⌝ }
 {
@@ -124,7 +124,7 @@ fn all_lengths_ok(
 }
 
 // Number 6, of all that is lent.
-fn all_lent_ok(
+fn all_lent_values_ok(
     spectra: &[f32],
     responses: &[f32],
     x2: &[f32],
@@ -133,7 +133,7 @@ fn all_lent_ok(
     average: &[f32],
     average_compensated: &[f32],
 ) -> bool
-    ensures { λ r. ⌜ r ≡ allLentOk (now (spectra .entry)) (now (responses .entry)) (now (x2 .entry)) (now (y2 .entry)) (now (e2 .entry)) (now (average .entry)) (now («average_compensated» .entry)) ⌝ }
+    ensures { λ r. ⌜ r ≡ allValuesOk (now (spectra .entry)) (now (responses .entry)) (now (x2 .entry)) (now (y2 .entry)) (now (e2 .entry)) (now (average .entry)) (now («average_compensated» .entry)) ⌝ }
 {
     all_values_ok(x2, y2, e2)
         & values_ok(average)
@@ -187,7 +187,7 @@ pub fn update_refusal(
     ) {
         return BAD_LENGTH;
     }
-    if all_lent_ok(spectra, responses, x2, y2, e2, average, average_compensated) {
+    if all_lent_values_ok(spectra, responses, x2, y2, e2, average, average_compensated) {
         ACCEPTED
     } else {
         BAD_VALUE

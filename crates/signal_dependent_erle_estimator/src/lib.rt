@@ -17,7 +17,7 @@ use section_echoes::all_active_sections;
 pub use settings::SignalDependentSettings;
 use settings::refused_settings;
 ghost use mathlib.Core.Path.{_≡_};
-ghost use Prim.Native.Nat.{suc, _≤_};
+ghost use Prim.Native.Nat.{_≤_};
 ghost use lib.ListN.{take};
 ghost use Rattle.aec3_common.specs.Lists.{every};
 ghost use Rattle.aec3_common.specs.Refusal.{accepted};

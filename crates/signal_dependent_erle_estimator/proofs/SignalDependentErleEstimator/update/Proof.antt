@@ -5,7 +5,7 @@ use mathlib.Core.Bool.{true}
 use lib.Dec.{eqb, ltb}
 use Rattle.aec3_common.specs.Refusal.{accepted}
 use Rattle.aec3_common.proofs.Choices.{and-left, and-right, cond-neither}
-use Rattle.signal_dependent_erle_estimator.specs.SignalDependent.{Update, updateRefusal, updated, moved, updateAnswer}
+use Rattle.signal_dependent_erle_estimator.specs.SignalDependent.{Update, updateRefusal, updated, afterAccepted, updateAnswer}
 use Rattle.signal_dependent_erle_estimator.proofs.Judged.{settings-passed}
 use Rattle.signal_dependent_erle_estimator.proofs.SignalDependentErleEstimator.update.Statement.{statement}
 use Rattle.signal_dependent_erle_estimator.proofs.SignalDependentErleEstimator.update.Tie as tie
@@ -53,11 +53,11 @@ updated-requires : tie.Need-updated-requires
 updated-requires c κs = (ltb-true 1 _ (accepted-call c .1), eqb-true _ accepted (accepted-call c .0))
 
 returns : tie.Need-returns
-unfolding updateAnswer moved
+unfolding updateAnswer afterAccepted
 returns c = simp (c .updated .ensures, refused-by (c .before .before .before), accepted-call (c .before) .0, accepted-call (c .before) .1)
 
 returns-2 : tie.Need-returns-2
-unfolding updateAnswer moved
+unfolding updateAnswer afterAccepted
 returns-2 c =
     let start = c .before .before .before .before .before .before .before .before .before .before .before .before .before .before in
     let s = start .args .self in

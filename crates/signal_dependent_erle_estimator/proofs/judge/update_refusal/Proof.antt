@@ -66,7 +66,7 @@ returns-5 c =
       eq-eqb _ _ (c .before .before .before .before .before .before .before .if2 .left),
       eq-eqb _ _ (ring-judged (c .before .before .before .before .before) ∙ c .before .before .before .before .if3 .left),
       sym (c .before .before .before .all-lengths-ok .ensures) ∙ not-false _ (c .before .before .if4 .left),
-      sym (c .before .all-lent-ok .ensures) ∙ c .if5 .taken,
+      sym (c .before .all-lent-values-ok .ensures) ∙ c .if5 .taken,
     )
 
 returns-6 : tie.Need-returns-6
@@ -77,7 +77,7 @@ returns-6 c =
       eq-eqb _ _ (c .before .before .before .before .before .before .before .if2 .left),
       eq-eqb _ _ (ring-judged (c .before .before .before .before .before) ∙ c .before .before .before .before .if3 .left),
       sym (c .before .before .before .all-lengths-ok .ensures) ∙ not-false _ (c .before .before .if4 .left),
-      sym (c .before .all-lent-ok .ensures) ∙ c .if5 .left,
+      sym (c .before .all-lent-values-ok .ensures) ∙ c .if5 .left,
     )
 
 pub update-refusal-spec : {M : Type 1} → statement M

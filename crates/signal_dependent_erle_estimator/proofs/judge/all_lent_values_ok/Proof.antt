@@ -1,10 +1,10 @@
 use borrow.Author.Needs.{needs}
-use Rattle.signal_dependent_erle_estimator.specs.SignalDependent.{allLentOk}
-use Rattle.signal_dependent_erle_estimator.proofs.judge.all_lent_ok.Statement.{statement}
-use Rattle.signal_dependent_erle_estimator.proofs.judge.all_lent_ok.Tie as tie
+use Rattle.signal_dependent_erle_estimator.specs.SignalDependent.{allValuesOk}
+use Rattle.signal_dependent_erle_estimator.proofs.judge.all_lent_values_ok.Statement.{statement}
+use Rattle.signal_dependent_erle_estimator.proofs.judge.all_lent_values_ok.Tie as tie
 
 returns : tie.Need-returns
-unfolding allLentOk
+unfolding allValuesOk
 returns c =
     simp (
       c .values-ok4 .ensures,
@@ -14,7 +14,7 @@ returns c =
       c .before .before .before .before .all-values-ok .ensures,
     )
 
-pub all-lent-ok-spec : {M : Type 1} → statement M
-all-lent-ok-spec =
+pub all-lent-values-ok-spec : {M : Type 1} → statement M
+all-lent-values-ok-spec =
     tie.close
     (tie.spec (λ c κs. search needs) (λ c κs. search needs) (λ c κs. search needs) (λ c κs. search needs) (λ c κs. search needs) returns)
