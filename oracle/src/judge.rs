@@ -2,7 +2,8 @@
 //! published Rust asserts or answers anything there, so it is not asked.
 
 use crate::kinds::call::Call;
-use crate::kinds::erl;
+use crate::kinds::part::Settings;
+use crate::kinds::{erl, signal};
 use std::fmt;
 use std::ops::RangeInclusive;
 
@@ -115,6 +116,43 @@ pub fn erle_update(call: &Call, channels: usize) -> Judged {
     refuse_if(!asked, 5)?;
     let lists = [&call.render, &call.capture, &call.residual];
     refuse_if(!lists.iter().all(|list| in_value_range(list)), 6)
+}
+
+/// As for every start of an ERLE estimator, and then 3.
+pub fn signal_start(start: &signal::Start) -> Judged {
+    let settings = &start.settings;
+    erle_start(settings.limits(), settings.channels)?;
+    sections(start.sections, start.length_blocks, start.headroom_samples)
+}
+
+/// 21: a channel count that is not the state's. 2: render channels out of range.
+/// 4: ring slots out of range, or headroom blocks above the slots. 9: a read
+/// place not below the slots. 5: a list of another length than the counts ask, or
+/// response blocks above the filter length. 6: a value out of range, read or not.
+pub fn signal_update(call: &signal::Call, start: &signal::Start) -> Judged {
+    refuse_if(call.channels != start.settings.channels, 21)?;
+    refuse_if(!RENDER_CHANNELS.contains(&call.renders), 2)?;
+    refuse_if(start.headroom_samples / BLOCK_SAMPLES > call.slots, 4)?;
+    ring_place(call.slots, call.place)?;
+    refuse_if(!signal_lists_asked(call, start.length_blocks), 5)?;
+    refuse_if(!call.lists().into_iter().all(in_value_range), 6)
+}
+
+/// Whether the lists have the lengths that the counts ask, which are in range
+/// but for those of response blocks.
+fn signal_lists_asked(call: &signal::Call, length_blocks: u32) -> bool {
+    let channels = call.channels as usize;
+    let [render, capture, residual, ring, average, compensated, responses] = call.lists();
+    let counts = &call.response_blocks;
+    let of_all_channels = [capture, residual, average, compensated];
+    counts.iter().all(|&count| count <= length_blocks)
+        && call.flags.len() == channels
+        && render.len() == BANDS
+        && of_all_channels
+            .iter()
+            .all(|list| list.len() == BANDS * channels)
+        && ring.len() == BANDS * call.slots as usize * call.renders as usize
+        && responses.len() == BANDS * counts.iter().sum::<u32>() as usize
 }
 
 /// Each value is a number from 0, of either sign, to 2^100.

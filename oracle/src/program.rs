@@ -2,7 +2,7 @@
 
 #[derive(Debug, Clone, Copy, PartialEq, Eq)]
 pub enum Program {
-    /// Leaves and ERL.
+    /// Leaves, ERL and the signal-dependent estimator.
     Replay,
     /// The parts of the ERLE estimator, each alone.
     ReplayParts,

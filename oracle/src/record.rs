@@ -40,6 +40,15 @@ impl<'a> Fields<'a> {
         Ok(u32::from_le_bytes(take_array(&mut self.rest)?))
     }
 
+    /// So many fields.
+    pub fn array<const N: usize>(&mut self) -> Result<[u32; N], Malformed> {
+        let mut fields = [0; N];
+        for field in &mut fields {
+            *field = self.u32()?;
+        }
+        Ok(fields)
+    }
+
     pub fn i32(&mut self) -> Result<i32, Malformed> {
         Ok(i32::from_le_bytes(take_array(&mut self.rest)?))
     }
@@ -62,9 +71,12 @@ impl<'a> Fields<'a> {
     /// A list of binary32 numbers.
     pub fn floats(&mut self, count: u32) -> Result<Vec<f32>, Malformed> {
         let size = (count as usize).checked_mul(4).ok_or(Malformed)?;
-        let (words, _) = take(&mut self.rest, size)?.as_chunks();
-        let bits = words.iter().map(|&word| u32::from_le_bytes(word));
-        Ok(bits.map(f32::from_bits).collect())
+        floats_of(take(&mut self.rest, size)?)
+    }
+
+    /// All that remains, as binary32 numbers.
+    pub fn floats_to_the_end(self) -> Result<Vec<f32>, Malformed> {
+        floats_of(self.rest)
     }
 
     /// Finds the body at its end: it is not longer than its fields ask.
@@ -77,6 +89,24 @@ impl<'a> Fields<'a> {
     }
 }
 
+/// What a record carries, and the bytes for it.
+pub trait Body: Sized {
+    fn read(body: Fields<'_>) -> Result<Self, Malformed>;
+
+    /// The body that `read` reads.
+    fn body(&self) -> Vec<u8>;
+}
+
+fn floats_of(bytes: &[u8]) -> Result<Vec<f32>, Malformed> {
+    match bytes.as_chunks() {
+        (words, []) => {
+            let bits = words.iter().map(|&word| u32::from_le_bytes(word));
+            Ok(bits.map(f32::from_bits).collect())
+        }
+        _ => Err(Malformed),
+    }
+}
+
 fn flag(number: u32) -> Result<bool, Malformed> {
     match number {
         0 => Ok(false),
@@ -85,13 +115,28 @@ fn flag(number: u32) -> Result<bool, Malformed> {
     }
 }
 
+/// Fields one after the other.
+pub fn field_bytes(fields: &[u32]) -> Vec<u8> {
+    fields.iter().flat_map(|f| f.to_le_bytes()).collect()
+}
+
 /// Adds lists to a body: how many flags there are and how many numbers in each
 /// list, then the flags and the numbers.
 pub fn push_lists(body: &mut Vec<u8>, flags: &[bool], lists: &[&[f32]]) {
-    let counts = lists.iter().map(|list| list.len());
-    for count in [flags.len()].into_iter().chain(counts) {
-        body.extend((count as u32).to_le_bytes());
+    push_sizes(body, flags, lists);
+    push_entries(body, flags, lists);
+}
+
+/// How many flags there are, and how many numbers in each list.
+pub fn push_sizes(body: &mut Vec<u8>, flags: &[bool], lists: &[&[f32]]) {
+    let sizes = lists.iter().map(|list| list.len());
+    for size in [flags.len()].into_iter().chain(sizes) {
+        body.extend((size as u32).to_le_bytes());
     }
+}
+
+/// The flags, and the numbers of each list.
+pub fn push_entries(body: &mut Vec<u8>, flags: &[bool], lists: &[&[f32]]) {
     body.extend(flags.iter().map(|&flag| flag as u8));
     let values = lists.iter().copied().flatten();
     body.extend(values.flat_map(|value| value.to_bits().to_le_bytes()));

@@ -4,6 +4,7 @@
 mod blocks;
 mod erl;
 mod fullband;
+mod signal_dependent;
 mod subband;
 
 use crate::judge::BANDS;
@@ -20,6 +21,7 @@ const ROUNDS: usize = 200;
 pub fn speed() -> Result<(), String> {
     erl::speed()?;
     subband::speed()?;
+    signal_dependent::speed()?;
     fullband::speed()
 }
 

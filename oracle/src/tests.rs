@@ -3,6 +3,7 @@
 
 mod erl;
 mod fullband;
+mod signal;
 mod subband;
 
 use crate::audio_processing::aec3::signal_dependent_erle_estimator::{
@@ -50,6 +51,18 @@ impl Standing {
     fn fields(&self, head: &str) -> Vec<&str> {
         let last = self.text.lines().rev().find_map(|l| l.strip_prefix(head));
         last.unwrap().split(' ').collect()
+    }
+
+    /// The fields of a channel's last line of a name.
+    fn line(&self, name: &str, channel: usize) -> Vec<&str> {
+        self.fields(&format!("{name} {channel} "))
+    }
+
+    /// The bits of a figure in a band of the first channel.
+    fn band(&self, name: &str, band: usize) -> u32 {
+        let fields = self.line(name, 0);
+        assert_eq!(fields.len(), judge::BANDS);
+        number(fields[band]).to_bits()
     }
 }
 
@@ -186,9 +199,14 @@ fn malformed_records_end_the_run() {
 }
 
 #[test]
-fn the_sample_of_the_parts_is_small() {
-    let script = stored_sample(Program::ReplayParts);
-    assert!(script.bytes.len() <= 350_000);
-    let (lines, _) = run(Program::ReplayParts, &script.bytes);
-    assert!(lines.as_bytes().len() <= 1_500_000);
+fn the_samples_are_small() {
+    for (program, script_bytes, line_bytes) in [
+        (Program::Replay, 475_000, 350_000),
+        (Program::ReplayParts, 350_000, 1_500_000),
+    ] {
+        let script = stored_sample(program);
+        assert!(script.bytes.len() <= script_bytes);
+        let (lines, _) = run(program, &script.bytes);
+        assert!(lines.as_bytes().len() <= line_bytes);
+    }
 }

@@ -3,6 +3,9 @@
 mod erl;
 mod kinds;
 mod leaves;
+mod signal;
+mod signal_body;
+mod signal_figures;
 mod standing;
 
 use kinds::replay_next;

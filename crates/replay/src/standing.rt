@@ -1,19 +1,17 @@
 // What stands from one record to the next.
 use erl_estimator::ErlEstimator;
 use script::Turn;
+use script::bad;
+use signal_dependent_erle_estimator::SignalDependentErleEstimator;
+use signal_dependent_erle_estimator::SignalDependentSettings;
 
-// The ERL estimator of the latest start. Until the first start none stands, and the one that lies here is not used.
+// The estimators of the latest starts, one of each sort. Before the first start of a sort, and after one that was refused,
+// none of it stands, and the one that lies here is not used.
 pub struct Standing {
     pub erl_stands: bool,
     pub erl: ErlEstimator,
-}
-
-pub fn nothing_stands() -> Standing {
-    let erl = ErlEstimator::new(0);
-    Standing {
-        erl_stands: false,
-        erl,
-    }
+    pub signal_stands: bool,
+    pub signal: SignalDependentErleEstimator,
 }
 
 // What a record leaves: what stands, the place after the text, and whether the run goes on.
@@ -23,8 +21,52 @@ pub struct Step {
     pub more: bool,
 }
 
-// The step of a record that leaves what stands as it was.
-pub fn unchanged(standing: Standing, turn: Turn) -> Step {
+// A start without channels is refused, and what it answers serves as the estimator that is not used.
+fn unused_signal() -> SignalDependentErleEstimator {
+    let settings = SignalDependentSettings {
+        min: 0.0,
+        max_l: 0.0,
+        max_h: 0.0,
+        onset_detection: false,
+        num_capture_channels: 0,
+        num_sections: 0,
+        filter_length_blocks: 0,
+        delay_headroom_samples: 0,
+    };
+    let answer = SignalDependentErleEstimator::new(settings);
+    answer.state
+}
+
+pub fn nothing_stands() -> Standing {
+    Standing {
+        erl_stands: false,
+        erl: ErlEstimator::new(0),
+        signal_stands: false,
+        signal: unused_signal(),
+    }
+}
+
+impl Standing {
+    pub fn with_erl(mut self, erl: ErlEstimator) -> Standing {
+        self.erl_stands = true;
+        self.erl = erl;
+        self
+    }
+
+    pub fn with_signal(mut self, signal: SignalDependentErleEstimator) -> Standing {
+        self.signal_stands = true;
+        self.signal = signal;
+        self
+    }
+
+    pub fn without_signal(mut self) -> Standing {
+        self.signal_stands = false;
+        self
+    }
+}
+
+// The step of a record, with what stands after it.
+pub fn step_with(standing: Standing, turn: Turn) -> Step {
     Step {
         standing,
         at: turn.at,
@@ -32,15 +74,7 @@ pub fn unchanged(standing: Standing, turn: Turn) -> Step {
     }
 }
 
-// The step of a record from which an ERL estimator stands.
-pub fn with_erl(erl: ErlEstimator, turn: Turn) -> Step {
-    let standing = Standing {
-        erl_stands: true,
-        erl,
-    };
-    Step {
-        standing,
-        at: turn.at,
-        more: turn.more,
-    }
+// The step of a malformed record.
+pub fn bad_step(standing: Standing, out: &mut [u8], at: usize) -> Step {
+    step_with(standing, bad(out, at))
 }

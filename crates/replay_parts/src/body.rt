@@ -1,13 +1,10 @@
 // The body of an update, which is the same for both estimators: counts, and the lists of the call.
 use encoding::word_at;
-use script::MOST_FLAGS;
-use script::MOST_FLOATS;
-use script::flags_from;
+use script::bytes_of_floats;
 use script::flags_ok;
-use script::floats_from;
 
 // Where the lists start: behind five counts.
-const LISTS: usize = 20;
+pub const LISTS: usize = 20;
 
 // A record that asks for more updates, or for none, is malformed.
 const MOST_TIMES: u32 = 65535;
@@ -22,11 +19,11 @@ pub struct UpdateCounts {
 }
 
 // Where each list of floats starts in the body, and where the last one ends.
-struct Places {
-    x2: usize,
-    y2: usize,
-    e2: usize,
-    end: usize,
+pub struct Places {
+    pub x2: usize,
+    pub y2: usize,
+    pub e2: usize,
+    pub end: usize,
 }
 
 pub fn counts_of(body: &[u8]) -> UpdateCounts {
@@ -39,11 +36,11 @@ pub fn counts_of(body: &[u8]) -> UpdateCounts {
     }
 }
 
-fn places_of(counts: UpdateCounts) -> Places {
+pub fn places_of(counts: UpdateCounts) -> Places {
     let x2 = LISTS + counts.flags as usize;
-    let y2 = x2 + 4 * (counts.x2 as usize);
-    let e2 = y2 + 4 * (counts.y2 as usize);
-    let end = e2 + 4 * (counts.e2 as usize);
+    let y2 = x2 + bytes_of_floats(counts.x2);
+    let e2 = y2 + bytes_of_floats(counts.y2);
+    let end = e2 + bytes_of_floats(counts.e2);
     Places { x2, y2, e2, end }
 }
 
@@ -60,24 +57,4 @@ fn body_ok(body: &[u8]) -> bool {
 // Whether an update can be asked for so many times, 1 to 65,535, with such a body.
 pub fn update_ok(body: &[u8], times: u32) -> bool {
     (1 <= times) & (times <= MOST_TIMES) & body_ok(body)
-}
-
-// The flags, in a table that they may not fill; so it is with the lists of floats.
-pub fn flags_of(body: &[u8]) -> [bool; MOST_FLAGS] {
-    flags_from(body, LISTS)
-}
-
-pub fn x2_of(body: &[u8]) -> [f32; MOST_FLOATS] {
-    let places = places_of(counts_of(body));
-    floats_from(body, places.x2)
-}
-
-pub fn y2_of(body: &[u8]) -> [f32; MOST_FLOATS] {
-    let places = places_of(counts_of(body));
-    floats_from(body, places.y2)
-}
-
-pub fn e2_of(body: &[u8]) -> [f32; MOST_FLOATS] {
-    let places = places_of(counts_of(body));
-    floats_from(body, places.e2)
 }

@@ -1,5 +1,4 @@
 // The figures of the fullband estimator, and the inner state of every channel, a line each.
-use crate::shown::put_head;
 use crate::signed::put_signed;
 use encoding::put_bytes;
 use fullband_erle_estimator::ErleInstantaneous;
@@ -10,6 +9,7 @@ use fullband_erle_estimator::OptionalNumber;
 use fullband_erle_estimator::QualityAnswer;
 use script::put_field;
 use script::put_figure;
+use script::put_head;
 use script::put_refused;
 
 // One more field: a number, or that there is none.

@@ -1,22 +1,22 @@
 // Kinds 0130 to 0133: the subband estimator.
+use crate::body::LISTS;
 use crate::body::counts_of;
-use crate::body::e2_of;
-use crate::body::flags_of;
+use crate::body::places_of;
 use crate::body::update_ok;
-use crate::body::x2_of;
-use crate::body::y2_of;
 use crate::shown::bad_shown;
 use crate::shown::none_shown;
-use crate::shown::put_answer;
-use crate::shown::start_refused;
 use crate::standing::Standing;
 use crate::standing::Step;
+use crate::standing::step_with;
 use crate::subband_figures::put_figures;
 use encoding::float_of;
 use encoding::word_at;
 use script::MOST_FLAGS;
 use script::MOST_FLOATS;
-use script::part_length;
+use script::flags_in;
+use script::floats_in;
+use script::put_answer;
+use script::start_refused;
 use subband_erle_estimator::SubbandAnswer;
 use subband_erle_estimator::SubbandErleEstimator;
 use subband_erle_estimator::SubbandSettings;
@@ -56,13 +56,8 @@ pub fn start_subband(record: &[u8], standing: Standing, out: &mut [u8], at: usiz
     }
     let answer = SubbandErleEstimator::new(settings_of(record));
     if answer.refused != 0 {
-        return start_refused(
-            standing.without_subband(),
-            b"subband",
-            answer.refused,
-            out,
-            at,
-        );
+        let turn = start_refused(out, at, b"subband", answer.refused);
+        return step_with(standing.without_subband(), turn);
     }
     answer_shown(standing, answer, b"start", out, at)
 }
@@ -104,22 +99,19 @@ fn updated(
 // Updates with the lists of a body, each as long as the body says.
 fn updated_with(estimator: SubbandErleEstimator, times: u32, body: &[u8]) -> SubbandAnswer {
     let counts = counts_of(body);
-    let flags = flags_of(body);
-    let x2 = x2_of(body);
-    let y2 = y2_of(body);
-    let e2 = e2_of(body);
-    let num_flags = part_length(counts.flags, MOST_FLAGS);
-    let num_x2 = part_length(counts.x2, MOST_FLOATS);
-    let num_y2 = part_length(counts.y2, MOST_FLOATS);
-    let num_e2 = part_length(counts.e2, MOST_FLOATS);
+    let places = places_of(counts);
+    let mut flags = [false; MOST_FLAGS];
+    let mut x2 = [0.0; MOST_FLOATS];
+    let mut y2 = [0.0; MOST_FLOATS];
+    let mut e2 = [0.0; MOST_FLOATS];
     updated(
         estimator,
         times,
         counts.channels as usize,
-        &flags[0..num_flags],
-        &x2[0..num_x2],
-        &y2[0..num_y2],
-        &e2[0..num_e2],
+        flags_in(&mut flags, body, LISTS, counts.flags),
+        floats_in(&mut x2, body, places.x2, counts.x2),
+        floats_in(&mut y2, body, places.y2, counts.y2),
+        floats_in(&mut e2, body, places.e2, counts.e2),
     )
 }
 

@@ -1,32 +1,16 @@
 // The figures of the subband estimator and the inner state of every channel, a line for each array. A channel gives at
 // most 5,103 bytes, so that the text of a record, for four channels, fits the 32,768 bytes that script::flushed leaves
 // free.
-use crate::shown::put_head;
 use crate::signed::put_signed;
 use encoding::put_bytes;
-use script::put_bands;
+use script::put_array_line;
+use script::put_band_line;
 use script::put_field;
+use script::put_head;
 use subband_erle_estimator::SubbandChannel;
 use subband_erle_estimator::SubbandErleEstimator;
 use subband_erle_estimator::SubbandSettings;
 use subband_erle_estimator::erle;
-
-fn put_band_line(out: &mut [u8], at: usize, name: &[u8], channel: usize, bands: &[f32]) -> usize {
-    let at = put_head(out, at, name, channel);
-    let at = put_bands(out, at, bands);
-    put_bytes(out, at, b"\n")
-}
-
-// The line of an array that is handed over whole, so that no caller has to show its length.
-fn put_array_line(
-    out: &mut [u8],
-    at: usize,
-    name: &[u8],
-    channel: usize,
-    bands: [f32; 65],
-) -> usize {
-    put_band_line(out, at, name, channel, &bands)
-}
 
 // The compensated figures as the library hands them out.
 fn put_compensated_line(

@@ -1,10 +1,17 @@
 // What the programs that replay a script of library calls share: how records are read, how lists lie in a record, and
 // how lines are written. No public function asks anything of its caller.
+pub mod answers;
 pub mod input;
 pub mod line;
 pub mod lists;
 pub mod output;
 
+pub use answers::none_stands;
+pub use answers::put_answer;
+pub use answers::put_array_line;
+pub use answers::put_band_line;
+pub use answers::put_head;
+pub use answers::start_refused;
 pub use input::Next;
 pub use input::next_record;
 pub use input::record_buffer;
@@ -18,11 +25,14 @@ pub use line::put_field;
 pub use line::put_figure;
 pub use line::put_outcome;
 pub use line::put_refused;
+pub use lists::MOST_BLOCK_FLOATS;
 pub use lists::MOST_FLAGS;
 pub use lists::MOST_FLOATS;
-pub use lists::flags_from;
+pub use lists::bytes_of_floats;
+pub use lists::counts_in;
+pub use lists::flags_in;
 pub use lists::flags_ok;
-pub use lists::floats_from;
+pub use lists::floats_in;
 pub use lists::part_length;
 pub use lists::rest_from;
 pub use output::flushed;

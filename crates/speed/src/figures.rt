@@ -2,6 +2,7 @@
 use aec3_common::spectra::sum;
 use erl_estimator::ErlEstimator;
 use fullband_erle_estimator::FullBandErleEstimator;
+use signal_dependent_erle_estimator::SignalDependentErleEstimator;
 use subband_erle_estimator::SubbandChannel;
 use subband_erle_estimator::SubbandErleEstimator;
 ghost use Prim.Native.Nat.{_≤_};
@@ -21,13 +22,18 @@ fn stream_added(total: f32, stream: [f32; 65]) -> f32 {
     total
 }
 
+// A number and the two streams that every channel has.
+fn streams_added(total: f32, plain: [f32; 65], compensated: [f32; 65]) -> f32 {
+    let total = stream_added(total, plain);
+    stream_added(total, compensated)
+}
+
 // A number and the three streams of a channel.
 fn channel_added(total: f32, channel: SubbandChannel) -> f32 {
     let plain = channel.erle;
     let compensated = channel.erle_onset_compensated;
     let unbounded = channel.erle_unbounded;
-    let total = stream_added(total, plain);
-    let total = stream_added(total, compensated);
+    let total = streams_added(total, plain, compensated);
     stream_added(total, unbounded)
 }
 
@@ -54,6 +60,21 @@ pub fn fullband_sum(estimator: FullBandErleEstimator, channels: usize) -> f32
         let channel = records[ch];
         let instantaneous = channel.instantaneous_erle;
         total = total + channel.erle_time_domain_log2 + instantaneous.inst_quality_estimate;
+    }
+    total
+}
+
+// Of a signal-dependent estimator: channel by channel, the plain and the compensated figures.
+pub fn signal_dependent_sum(estimator: SignalDependentErleEstimator, channels: usize) -> f32
+    requires { ⌜ channels ≤ 4 ⌝ }
+{
+    let records = estimator.channels;
+    let mut total = 0.0;
+    for ch in 0..channels {
+        let channel = records[ch];
+        let plain = channel.erle;
+        let compensated = channel.erle_onset_compensated;
+        total = streams_added(total, plain, compensated);
     }
     total
 }

@@ -1,12 +1,12 @@
 // Updates of the fullband estimator.
+use crate::blocks::blocks_fit;
 use crate::blocks::flags_of;
 use crate::blocks::spectra_of;
-use crate::blocks::whole_blocks;
 use crate::figures::fullband_sum;
 use fullband_erle_estimator::FullBandErleEstimator;
 use fullband_erle_estimator::FullBandSettings;
-ghost use Prim.Native.Nat.{_*_, _≤_};
 ghost use lib.ListN.{length};
+ghost use Rattle.speed.specs.Room.{Room};
 
 // All blocks once.
 fn one_round(
@@ -18,11 +18,7 @@ fn one_round(
     residual: &[f32],
     blocks: usize,
 ) -> FullBandErleEstimator
-    requires { ⌜ channels ≤ 4 ⌝ }
-    requires { ⌜ blocks * channels ≤ length (now flags) ⌝ }
-    requires { ⌜ blocks * 65 ≤ length (now render) ⌝ }
-    requires { ⌜ blocks * (channels * 65) ≤ length (now capture) ⌝ }
-    requires { ⌜ blocks * (channels * 65) ≤ length (now residual) ⌝ }
+    requires { ⌜ Room channels blocks (length (now flags)) (length (now render)) (length (now capture)) (length (now residual)) ⌝ }
 {
     let mut estimator = estimator;
     for block in 0..blocks {
@@ -61,11 +57,7 @@ fn all_rounds(
     blocks: usize,
     rounds: usize,
 ) -> FullBandErleEstimator
-    requires { ⌜ channels ≤ 4 ⌝ }
-    requires { ⌜ blocks * channels ≤ length (now flags) ⌝ }
-    requires { ⌜ blocks * 65 ≤ length (now render) ⌝ }
-    requires { ⌜ blocks * (channels * 65) ≤ length (now capture) ⌝ }
-    requires { ⌜ blocks * (channels * 65) ≤ length (now residual) ⌝ }
+    requires { ⌜ Room channels blocks (length (now flags)) (length (now render)) (length (now capture)) (length (now residual)) ⌝ }
 {
     let mut estimator = started(channels);
     for _ in 0..rounds {
@@ -96,19 +88,7 @@ pub extern "C" fn speed_fullband(
     blocks: usize,
     rounds: usize,
 ) -> f32 {
-    if channels > 4 {
-        return 0.0;
-    }
-    if blocks > whole_blocks(flags.len(), channels) {
-        return 0.0;
-    }
-    if blocks > whole_blocks(render.len(), 65) {
-        return 0.0;
-    }
-    if blocks > whole_blocks(capture.len(), channels * 65) {
-        return 0.0;
-    }
-    if blocks > whole_blocks(residual.len(), channels * 65) {
+    if !blocks_fit(channels, flags, render, capture, residual, blocks) {
         return 0.0;
     }
     let estimator = all_rounds(channels, flags, render, capture, residual, blocks, rounds);

@@ -4,4 +4,5 @@ mod blocks;
 mod erl;
 mod figures;
 mod fullband;
+mod signal_dependent;
 mod subband;

@@ -1,6 +1,7 @@
 //! One update of a part of the ERLE estimator.
 
-use crate::record::{push_lists, Fields, Malformed};
+use crate::judge::BANDS;
+use crate::record::{push_lists, Body, Fields, Malformed};
 
 /// The channel count that an update says, and what it lends.
 #[derive(Clone)]
@@ -13,7 +14,14 @@ pub struct Call {
 }
 
 impl Call {
-    pub fn read(mut body: Fields<'_>) -> Result<Self, Malformed> {
+    /// The render, the captures and the residuals.
+    pub fn spectra(&self) -> [&[[f32; BANDS]]; 3] {
+        [&self.render, &self.capture, &self.residual].map(|list| list.as_chunks().0)
+    }
+}
+
+impl Body for Call {
+    fn read(mut body: Fields<'_>) -> Result<Self, Malformed> {
         let channels = body.u32()?;
         let (flags, render) = (body.u32()?, body.u32()?);
         let (capture, residual) = (body.u32()?, body.u32()?);
@@ -28,8 +36,7 @@ impl Call {
         Ok(call)
     }
 
-    /// The body that `read` reads.
-    pub fn body(&self) -> Vec<u8> {
+    fn body(&self) -> Vec<u8> {
         let mut body = self.channels.to_le_bytes().to_vec();
         push_lists(
             &mut body,

@@ -4,7 +4,7 @@ use crate::audio_processing::aec3::erl_estimator::ErlEstimator;
 use crate::judge::{self, Judged};
 use crate::kinds::answer_call;
 use crate::lines::Lines;
-use crate::record::{push_lists, Fields, Malformed, Record};
+use crate::record::{push_lists, Body, Fields, Malformed, Record};
 
 pub const START: u16 = 0x0110;
 pub const UPDATE: u16 = 0x0111;
@@ -72,7 +72,7 @@ pub struct Call {
     pub capture: Vec<f32>,
 }
 
-impl Call {
+impl Body for Call {
     fn read(mut body: Fields<'_>) -> Result<Self, Malformed> {
         let (captures, renders) = (body.u32()?, body.u32()?);
         let (flags, render, capture) = (body.u32()?, body.u32()?, body.u32()?);
@@ -87,14 +87,15 @@ impl Call {
         Ok(call)
     }
 
-    /// The body that `read` reads.
-    pub fn body(&self) -> Vec<u8> {
+    fn body(&self) -> Vec<u8> {
         let mut body = self.captures.to_le_bytes().to_vec();
         body.extend(self.renders.to_le_bytes());
         push_lists(&mut body, &self.flags, &[&self.render, &self.capture]);
         body
     }
+}
 
+impl Call {
     /// Updates an estimator, unless the call is turned away.
     pub fn update(&self, estimator: &mut ErlEstimator) -> Judged {
         judge::erl_update(self)?;

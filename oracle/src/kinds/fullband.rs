@@ -1,9 +1,10 @@
 //! Kinds 0150 to 0153: the fullband estimator.
 
+use super::call::Call;
 use super::part::{Part, Settings};
-use crate::api::config::EchoCanceller3Config;
+use super::standing::Estimator;
 use crate::audio_processing::aec3::fullband_erle_estimator::{peek_channel, FullBandErleEstimator};
-use crate::judge::BANDS;
+use crate::judge::{self, Judged};
 use crate::lines::{fields, Hex, Lines, Optional};
 
 /// Decibels in a unit of log2, by document 01; the published Rust has no such
@@ -12,33 +13,32 @@ const DECIBELS_PER_LOG2: f32 = 3.0;
 
 pub type FullBand = FullBandErleEstimator;
 
-impl Part for FullBand {
+impl Part for FullBand {}
+
+impl Estimator for FullBand {
     const NAME: &'static str = "fullband";
     const START: u16 = 0x0150;
     type Start = Start;
+    type Call = Call;
+
+    fn judge_start(start: &Start) -> Judged {
+        judge::erle_start(start.limits(), start.channels)
+    }
 
     fn new(start: &Start) -> Self {
-        let mut config = EchoCanceller3Config::default();
-        config.erle.min = start.min;
-        config.erle.max_l = start.max_l;
-        config.erle.max_h = start.max_h;
+        let mut config = start.config();
         config.erle.clamp_quality_estimate_to_zero = start.to_zero;
         config.erle.clamp_quality_estimate_to_one = start.to_one;
         FullBandErleEstimator::new(&config.erle, start.channels as usize)
     }
 
-    fn channels(&self) -> usize {
-        self.get_linear_quality_estimates().len()
+    fn judge_update(&self, call: &Call) -> Judged {
+        judge::erle_update(call, self.get_linear_quality_estimates().len())
     }
 
-    fn update(
-        &mut self,
-        render: &[f32; BANDS],
-        captures: &[[f32; BANDS]],
-        residuals: &[[f32; BANDS]],
-        converged: &[bool],
-    ) {
-        FullBandErleEstimator::update(self, render, captures, residuals, converged);
+    fn run(&mut self, call: &Call) {
+        let [render, captures, residuals] = call.spectra();
+        self.update(&render[0], captures, residuals, &call.flags);
     }
 
     fn reset(&mut self) {
@@ -55,7 +55,7 @@ impl Part for FullBand {
             Hex(decibels),
             fields(qualities.iter().map(|&quality| Optional(quality)))
         ));
-        for c in 0..self.channels() {
+        for c in 0..qualities.len() {
             let held = peek_channel(self, c);
             lines.push(format_args!(
                 "fullstate {c} {} {} {} {} {} {} {} {} {}",

@@ -5,6 +5,9 @@ pub mod erl;
 pub mod fullband;
 pub mod leaves;
 pub mod part;
+pub mod ring;
+pub mod signal;
+pub mod standing;
 pub mod subband;
 
 use crate::judge::Judged;
@@ -14,7 +17,9 @@ use crate::record::{Malformed, Record};
 use erl::Erl;
 use fullband::FullBand;
 use leaves::Leaves;
-use part::{Part, Standing};
+use part::Part;
+use signal::Signal;
+use standing::{Estimator, Standing};
 use subband::Subband;
 
 /// What the groups of kinds of a program keep from record to record.
@@ -22,6 +27,7 @@ pub enum Groups {
     Replay {
         leaves: Leaves,
         erl: Erl,
+        signal: Box<Standing<Signal>>,
     },
     ReplayParts {
         subband: Standing<Subband>,
@@ -35,6 +41,7 @@ impl Groups {
             Program::Replay => Self::Replay {
                 leaves: Leaves::new(),
                 erl: Erl::default(),
+                signal: Box::default(),
             },
             Program::ReplayParts => Self::ReplayParts {
                 subband: Standing::default(),
@@ -46,13 +53,18 @@ impl Groups {
     /// Answers one record. A malformed record prints nothing here.
     pub fn answer(&mut self, record: &Record<'_>, lines: &mut Lines) -> Result<(), Malformed> {
         match self {
-            Self::Replay { leaves, erl } => match record.kind {
+            Self::Replay {
+                leaves,
+                erl,
+                signal,
+            } => match record.kind {
                 leaves::LOG2 | leaves::RING | leaves::SECTIONS => leaves.answer(record, lines),
+                Signal::START..=Signal::RESET => signal.answer(record, lines),
                 _ => erl.answer(record, lines),
             },
             Self::ReplayParts { subband, fullband } => match record.kind {
-                FullBand::START..=FullBand::REPEAT => fullband.answer(record, lines),
-                _ => subband.answer(record, lines),
+                FullBand::START..=FullBand::REPEAT => fullband.answer_part(record, lines),
+                _ => subband.answer_part(record, lines),
             },
         }
     }

@@ -1,39 +1,39 @@
 //! Kinds 0130 to 0133: the subband estimator.
 
+use super::call::Call;
 use super::part::{Part, Settings};
-use crate::api::config::EchoCanceller3Config;
+use super::standing::Estimator;
 use crate::audio_processing::aec3::subband_erle_estimator::{peek_channel, SubbandErleEstimator};
-use crate::judge::BANDS;
+use crate::judge::{self, Judged};
 use crate::lines::{fields, Lines};
 
 pub type Subband = SubbandErleEstimator;
 
-impl Part for Subband {
+impl Part for Subband {}
+
+impl Estimator for Subband {
     const NAME: &'static str = "subband";
     const START: u16 = 0x0130;
     type Start = Start;
+    type Call = Call;
+
+    fn judge_start(start: &Start) -> Judged {
+        judge::erle_start(start.limits(), start.channels)
+    }
 
     fn new(start: &Start) -> Self {
-        let mut config = EchoCanceller3Config::default();
-        config.erle.min = start.min;
-        config.erle.max_l = start.max_l;
-        config.erle.max_h = start.max_h;
+        let mut config = start.config();
         config.erle.onset_detection = start.onset;
         SubbandErleEstimator::new(&config, start.channels as usize)
     }
 
-    fn channels(&self) -> usize {
-        self.erle(false).len()
+    fn judge_update(&self, call: &Call) -> Judged {
+        judge::erle_update(call, self.erle(false).len())
     }
 
-    fn update(
-        &mut self,
-        render: &[f32; BANDS],
-        captures: &[[f32; BANDS]],
-        residuals: &[[f32; BANDS]],
-        converged: &[bool],
-    ) {
-        SubbandErleEstimator::update(self, render, captures, residuals, converged);
+    fn run(&mut self, call: &Call) {
+        let [render, captures, residuals] = call.spectra();
+        self.update(&render[0], captures, residuals, &call.flags);
     }
 
     fn reset(&mut self) {
@@ -41,7 +41,7 @@ impl Part for Subband {
     }
 
     fn figures(&self, lines: &mut Lines) {
-        for c in 0..self.channels() {
+        for c in 0..self.erle(false).len() {
             let held = peek_channel(self, c);
             lines.push_hex(format_args!("plain {c}"), &self.erle(false)[c]);
             lines.push_hex(format_args!("comp {c}"), &self.erle(true)[c]);

@@ -3,7 +3,9 @@
 
 use super::random::Random;
 use super::Script;
-use crate::record::MAX_LENGTH;
+use crate::kinds::standing::Estimator;
+use crate::record::{Body, MAX_LENGTH};
+use std::ops::Range;
 
 /// The bytes before a body: the length and the kind.
 const FRAME: usize = 6;
@@ -106,6 +108,29 @@ impl Records {
         scripts
     }
 
+    /// Switches above 1 in starts of these fields, at these places among them.
+    pub fn other_switches(
+        &self,
+        kind: u16,
+        places: Range<usize>,
+        starts: &[Vec<u32>],
+    ) -> Vec<Script> {
+        let mut scripts = Vec::new();
+        for place in places {
+            for switch in [2, 3, 256, 1 << 16, 1 << 24, 1 << 31, u32::MAX] {
+                for start in starts {
+                    let mut fields = start.clone();
+                    fields[place] = switch;
+                    let mut script = self.good.clone();
+                    script.record(kind, &fields);
+                    (self.next)(&mut script);
+                    scripts.push(script);
+                }
+            }
+        }
+        scripts
+    }
+
     /// A record with the length as said, between good ones.
     fn between(&self, length: u32, kind: u16, body: &[u8]) -> Script {
         let mut script = self.good.clone();
@@ -115,19 +140,38 @@ impl Records {
     }
 }
 
+/// Updates of as many flags as the greatest length has room for, one less and
+/// one more.
+pub fn longest_records<E: Estimator>(
+    start: &E::Start,
+    with_flags: impl Fn(usize) -> E::Call,
+) -> Vec<Script> {
+    let room = MAX_LENGTH as usize - 2 - with_flags(0).body().len();
+    let script = |flags: usize| {
+        let mut script = Script::default();
+        script.start::<E>(start);
+        script.update::<E>(&with_flags(flags));
+        script.reset::<E>();
+        script
+    };
+    [room - 1, room, room + 1].map(script).into()
+}
+
 /// A record that lends lists, which is damaged.
 pub struct Lending {
     /// The record before it, which starts an estimator.
     pub start: Script,
     pub kind: u16,
-    /// A good body: fields, of which the last say how many entries the lists
-    /// have, then one flag and the other lists.
+    /// A good body: fields, some of which say how many entries the lists have,
+    /// then one flag and the other lists.
     pub body: Vec<u8>,
     /// The place, among the fields, of a channel count.
     pub channels: usize,
     /// The place of the first number of entries, and the numbers.
     pub first_number: usize,
     pub numbers: &'static [u32],
+    /// How many fields stand between these and the flag.
+    pub fields_behind: usize,
     /// Numbers of entries that are right only as a sum that wraps round.
     pub wrapping: &'static [&'static [u32]],
     /// Other numbers of entries of the same size together.
@@ -149,7 +193,7 @@ impl Lending {
 
     /// The place of the first flag in the body.
     fn first_flag(&self) -> usize {
-        4 * (self.first_number + self.numbers.len())
+        4 * (self.first_number + self.numbers.len() + self.fields_behind)
     }
 
     /// The start and the record with this body and a length as said, and then
@@ -259,6 +303,21 @@ impl Lending {
             scripts.push(self.with_body(&vec![0; size]));
         }
         scripts
+    }
+
+    /// Bodies that are too short or too long, where none stands.
+    pub fn wrong_lengths_with_none_standing(&self) -> Vec<Script> {
+        let right = self.body.len();
+        let script = |size: usize| {
+            let mut body = self.body.clone();
+            body.resize(size, 0);
+            let mut script = Script::default();
+            script.whole(self.kind, &body);
+            (self.next)(&mut script);
+            script
+        };
+        let sizes = [0, 19, 20, 24, right - 4, right - 1, right, right + 1];
+        sizes.into_iter().map(script).collect()
     }
 
     /// Bodies that are whole, but with lists of other lengths: calls, not

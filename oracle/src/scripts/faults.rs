@@ -69,6 +69,24 @@ pub fn faulty<C: Clone>(good: &C, groups: &[&[Fault<C>]]) -> Vec<C> {
     calls.split_off(1)
 }
 
+/// Every fault alone.
+pub fn singles<C: Clone>(good: &C, groups: &[&[Fault<C>]]) -> Vec<C> {
+    let alone = |group: &&[Fault<C>]| with_each(good, group).split_off(1);
+    groups.iter().flat_map(alone).collect()
+}
+
+/// Every fault alone, and every two of different groups.
+pub fn singles_and_pairs<C: Clone>(good: &C, groups: &[&[Fault<C>]]) -> Vec<C> {
+    let mut calls = Vec::new();
+    for (at, group) in groups.iter().enumerate() {
+        for single in singles(good, &[group]) {
+            calls.extend(singles(&single, &groups[at + 1..]));
+            calls.push(single);
+        }
+    }
+    calls
+}
+
 /// A call, and the same with each fault of a group.
 fn with_each<C: Clone>(call: &C, group: &[Fault<C>]) -> Vec<C> {
     let mut calls = vec![call.clone(); 1 + group.len()];

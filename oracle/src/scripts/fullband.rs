@@ -16,7 +16,7 @@ use crate::kinds::call::Call;
 use crate::kinds::fullband::{FullBand, Start};
 use crate::kinds::part::Settings;
 
-type Walk = super::part::Walk<FullBand>;
+type Walk = super::walk::Walk<FullBand>;
 
 /// The blocks after which a new figure's accumulators are cleared, itself
 /// counted.

@@ -11,14 +11,18 @@ pub mod part;
 mod parts_sample;
 pub mod random;
 mod sample;
+pub mod signal;
 pub mod spectra;
 pub mod subband;
 pub mod sums;
+mod walk;
 
 use crate::kinds;
 use crate::kinds::call::Call;
-use crate::kinds::part::{Part, Settings};
+use crate::kinds::part::Part;
+use crate::kinds::standing::Estimator;
 use crate::program::Program;
+use crate::record::{field_bytes, Body};
 
 /// Makes a script.
 pub type Maker = Box<dyn FnOnce() -> Script>;
@@ -46,7 +50,7 @@ impl Name {
     }
 }
 
-pub const NAMES: [Name; 9] = [
+pub const NAMES: [Name; 11] = [
     Name::new("log2", Program::Replay, || vec![Box::new(leaves::log2)]),
     Name::new("ring", Program::Replay, || vec![Box::new(leaves::ring)]),
     Name::new("sections", Program::Replay, || {
@@ -54,6 +58,10 @@ pub const NAMES: [Name; 9] = [
     }),
     Name::new("erl", Program::Replay, erl::scripts),
     Name::new("damaged", Program::Replay, || made(damaged::scripts())),
+    Name::new("signal", Program::Replay, signal::scripts),
+    Name::new("damaged_signal", Program::Replay, || {
+        made(signal::damaged_scripts())
+    }),
     Name::new("subband", Program::ReplayParts, subband::scripts),
     Name::new("damaged_subband", Program::ReplayParts, || {
         made(subband::damaged_scripts())
@@ -80,10 +88,6 @@ pub fn stored_sample(program: Program) -> Script {
         Program::Replay => sample::script(),
         Program::ReplayParts => parts_sample::script(),
     }
-}
-
-fn field_bytes(fields: &[u32]) -> Vec<u8> {
-    fields.iter().flat_map(|f| f.to_le_bytes()).collect()
 }
 
 /// A script as it grows.
@@ -118,20 +122,20 @@ impl Script {
         self.record(kinds::erl::RESET, &[]);
     }
 
-    /// A start of a part of the ERLE estimator.
-    pub fn start<P: Part>(&mut self, start: &P::Start) {
-        self.record(P::START, &start.body());
+    /// A start of an estimator that stands alone.
+    pub fn start<E: Estimator>(&mut self, start: &E::Start) {
+        self.whole(E::START, &start.body());
     }
 
-    pub fn update<P: Part>(&mut self, call: &Call) {
-        self.whole(P::UPDATE, &call.body());
+    pub fn update<E: Estimator>(&mut self, call: &E::Call) {
+        self.whole(E::UPDATE, &call.body());
     }
 
-    pub fn reset<P: Part>(&mut self) {
-        self.record(P::RESET, &[]);
+    pub fn reset<E: Estimator>(&mut self) {
+        self.record(E::RESET, &[]);
     }
 
-    /// The same update so many times.
+    /// The same update of a part of the ERLE estimator so many times.
     pub fn repeat<P: Part>(&mut self, times: u32, call: &Call) {
         let body = [field_bytes(&[times]), call.body()].concat();
         self.whole(P::REPEAT, &body);

@@ -7,6 +7,7 @@ pub mod starts;
 use super::flags::Flags;
 use super::random::Random;
 use super::spectra::Spectrum;
+use super::walk::Walk;
 use super::{Maker, Script};
 use crate::judge::{BANDS, CAPTURE_CHANNELS, GREATEST_ERLE, GREATEST_VALUE};
 use crate::kinds::call::Call;
@@ -45,67 +46,25 @@ pub fn makers(
     stretch: fn(u64) -> Script,
 ) -> Vec<Maker> {
     let mut makers: Vec<Maker> = vec![Box::new(first)];
-    for &script in for_channels {
-        for channels in CAPTURE_CHANNELS {
-            makers.push(Box::new(move || script(channels as usize)));
-        }
-    }
+    makers.extend(for_each_number_of_channels(for_channels));
     for seed in stretches {
         makers.push(Box::new(move || stretch(seed)));
     }
     makers
 }
 
-/// A script that grows beside the published estimator, so that a call can aim
-/// at the figures that it finds.
-pub struct Walk<P> {
-    pub script: Script,
-    pub estimator: Option<P>,
-}
-
-impl<P> Default for Walk<P> {
-    fn default() -> Self {
-        Self::behind(Script::default())
-    }
-}
-
-impl<P> Walk<P> {
-    /// Goes on behind what stands in a script, where none of the part stands.
-    pub fn behind(script: Script) -> Self {
-        Self {
-            script,
-            estimator: None,
+/// The makers of these scripts, of each sort one for each number of channels.
+pub fn for_each_number_of_channels(scripts: &[fn(usize) -> Script]) -> Vec<Maker> {
+    let mut makers: Vec<Maker> = Vec::new();
+    for &script in scripts {
+        for channels in CAPTURE_CHANNELS {
+            makers.push(Box::new(move || script(channels as usize)));
         }
     }
+    makers
 }
 
 impl<P: Part> Walk<P> {
-    pub fn started(start: &P::Start) -> Self {
-        let mut walk = Self::default();
-        walk.start(start);
-        walk
-    }
-
-    pub fn start(&mut self, start: &P::Start) {
-        self.script.start::<P>(start);
-        self.estimator = P::started(start).ok();
-    }
-
-    /// Adds a call; one that is turned away changes nothing.
-    pub fn update(&mut self, call: &Call) {
-        self.script.update::<P>(call);
-        self.run(1, call);
-    }
-
-    pub fn updates(&mut self, calls: &[Call]) {
-        calls.iter().for_each(|call| self.update(call));
-    }
-
-    /// Adds as many updates, each with its lines.
-    pub fn each(&mut self, times: usize, call: &Call) {
-        (0..times).for_each(|_| self.update(call));
-    }
-
     /// Adds as many updates in one record, with the lines of the last.
     pub fn repeat(&mut self, times: u32, call: &Call) {
         self.script.repeat::<P>(times, call);
@@ -143,19 +102,6 @@ impl<P: Part> Walk<P> {
         for _ in 0..blocks {
             let flags = Flags::Any.draw(random, channels);
             self.update(&make(random, &flags));
-        }
-    }
-
-    pub fn reset(&mut self) {
-        self.script.reset::<P>();
-        if let Some(estimator) = &mut self.estimator {
-            estimator.reset();
-        }
-    }
-
-    fn run(&mut self, times: u32, call: &Call) {
-        if let Some(estimator) = &mut self.estimator {
-            estimator.repeat(times, call).ok();
         }
     }
 }

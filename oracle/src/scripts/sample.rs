@@ -1,10 +1,10 @@
 //! The stored sample: document 01's bench values first, then limits, refusals
-//! and a few random calls of the leaves, then of the ERL estimator, and a record
-//! cut short at the end.
+//! and a few random calls of the leaves, then of the ERL estimator, then of the
+//! signal-dependent one, and a record cut short at the end.
 
 use super::leaves::{random_pattern, LOG2_SPECIALS};
 use super::random::Random;
-use super::{erl, Script};
+use super::{erl, signal, Script};
 
 pub fn script() -> Script {
     let mut script = Script::default();
@@ -14,6 +14,7 @@ pub fn script() -> Script {
     section_limits(&mut script);
     random_calls(&mut script);
     script = erl::sample::add(script);
+    script = signal::sample::add(script);
     script.log2(0x3F80_0000);
     script.bytes.pop();
     script

@@ -12,7 +12,7 @@ use super::{Maker, Script};
 use crate::kinds::part::Settings;
 use crate::kinds::subband::{Start, Subband};
 
-type Walk = super::part::Walk<Subband>;
+type Walk = super::walk::Walk<Subband>;
 
 /// How many scripts of random stretches there are.
 const STRETCHES: u64 = 88;

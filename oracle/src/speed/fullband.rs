@@ -4,7 +4,7 @@ use super::blocks::{Blocks, FLAGS};
 use super::{measure, BLOCKS, ROUNDS};
 use crate::audio_processing::aec3::fullband_erle_estimator::peek_channel;
 use crate::kinds::fullband::{FullBand, Start};
-use crate::kinds::part::Part;
+use crate::kinds::standing::Estimator;
 use crate::scripts::fullband::example_start;
 
 extern "C" {

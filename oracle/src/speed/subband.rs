@@ -3,7 +3,7 @@
 use super::blocks::{Blocks, FLAGS};
 use super::{measure, BLOCKS, ROUNDS};
 use crate::audio_processing::aec3::subband_erle_estimator::{peek_channel, SubbandErleEstimator};
-use crate::kinds::part::Part;
+use crate::kinds::standing::Estimator;
 use crate::kinds::subband::{Start, Subband};
 use crate::scripts::subband::example_start;
 

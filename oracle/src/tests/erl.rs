@@ -3,11 +3,11 @@
 use super::{lines, number, records_of_kind};
 use crate::judge::BANDS;
 use crate::kinds::erl::{Call, UPDATE};
-use crate::program::Program;
+use crate::record::Body;
 use crate::scripts::erl::{call, flat};
 use crate::scripts::spectra::{LOUD, T};
 use crate::scripts::sums::SUM_T;
-use crate::scripts::{stored_sample, Script};
+use crate::scripts::Script;
 
 /// The figures after a script's last call: band 32 and the time domain.
 fn last_figures(fill: impl Fn(&mut Script)) -> (f32, f32) {
@@ -152,9 +152,4 @@ fn a_flag_byte_above_one_is_malformed() {
 #[test]
 fn the_scripts_hold_two_hundred_thousand_updates() {
     assert!(records_of_kind("erl", UPDATE) >= 200_000);
-}
-
-#[test]
-fn the_sample_is_small() {
-    assert!(stored_sample(Program::Replay).bytes.len() <= 200_000);
 }

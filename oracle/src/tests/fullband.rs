@@ -6,9 +6,10 @@ use crate::judge::{BANDS, GREATEST_VALUE};
 use crate::kinds::call::Call;
 use crate::kinds::fullband::{FullBand, Start};
 use crate::kinds::part::{Part, Settings};
+use crate::kinds::standing::Estimator;
 use crate::kinds::subband::Subband;
 use crate::program::Program;
-use crate::record::{take_record, Fields, Malformed, Record};
+use crate::record::{take_record, Body, Fields, Malformed, Record};
 use crate::scripts::fullband::{example_start, HOLD};
 use crate::scripts::part::{converged, flat, POINTS};
 use crate::scripts::spectra::{LOUD, T};
@@ -297,7 +298,7 @@ fn each_estimator_stands_alone() {
 #[test]
 fn malformed_bodies_end_the_run() {
     let call = converged(1, LOUD, 3.0, 1.0);
-    let mut bodies = [example_start().body(), example_start().body()];
+    let mut bodies = [example_start().fields(), example_start().fields()];
     bodies[0][3] = 2;
     bodies[1][4] = 2;
     let mut other_flag = call.body();
@@ -374,7 +375,9 @@ fn step(standing: &mut Option<(Start, FullBand)>, record: &Record<'_>) -> Result
 
 fn held(standing: &Option<(Start, FullBand)>) -> Vec<PeekedChannel> {
     match standing {
-        Some((_, e)) => (0..e.channels()).map(|c| peek_channel(e, c)).collect(),
+        Some((start, e)) => (0..start.channels as usize)
+            .map(|c| peek_channel(e, c))
+            .collect(),
         None => Vec::new(),
     }
 }

@@ -1,11 +1,13 @@
 //! Readings of the subband steps, asked of the published Rust.
 
-use super::{lines_of, number, records_of_kind, Standing};
+use super::{lines_of, records_of_kind, Standing};
 use crate::judge::{BANDS, GREATEST_ERLE, GREATEST_VALUE};
 use crate::kinds::call::Call;
-use crate::kinds::part::{Part, Settings};
+use crate::kinds::part::Settings;
+use crate::kinds::standing::Estimator;
 use crate::kinds::subband::{Start, Subband};
 use crate::program::Program;
+use crate::record::Body;
 use crate::scripts::part::{converged, flat, POINTS};
 use crate::scripts::spectra::{LOUD, T};
 use crate::scripts::subband::example_start;
@@ -22,18 +24,6 @@ fn lines(fill: impl Fn(&mut Script)) -> String {
 }
 
 impl Standing {
-    /// The fields of a channel's last line of a name.
-    fn line(&self, name: &str, channel: usize) -> Vec<&str> {
-        self.fields(&format!("{name} {channel} "))
-    }
-
-    /// The bits of a figure in a band of the first channel.
-    fn band(&self, name: &str, band: usize) -> u32 {
-        let fields = self.line(name, 0);
-        assert_eq!(fields.len(), BANDS);
-        number(fields[band]).to_bits()
-    }
-
     /// The bits of a figure in band 20, where the maximum is max_l.
     fn figure(&self, name: &str) -> u32 {
         self.band(name, 20)
@@ -320,7 +310,7 @@ fn a_repeat_is_as_many_updates() {
 #[test]
 fn malformed_bodies_end_the_run() {
     let call = converged(1, LOUD, 3.0, 1.0);
-    let mut other_onset = example_start().body();
+    let mut other_onset = example_start().fields();
     other_onset[3] = 2;
     let mut other_flag = call.body();
     other_flag[20] = 2;

@@ -2,6 +2,7 @@
 
 use super::refused::good_call;
 use crate::kinds::erl::UPDATE;
+use crate::record::Body;
 use crate::scripts::damage::Lending;
 use crate::scripts::random::Random;
 use crate::scripts::Script;
@@ -16,6 +17,7 @@ pub fn scripts() -> Vec<Script> {
         channels: 0,
         first_number: 2,
         numbers: &[1, 65, 65],
+        fields_behind: 0,
         wrapping: &[
             &[u32::MAX - 2, 66, 65],
             &[u32::MAX - 258, 65, 130],

@@ -1,8 +1,9 @@
 //! The ERL part of the stored sample.
 
-use super::refused::{good_call, COUNTS, LENGTHS, VALUES};
+use super::refused::{good_call, COUNTS, FAULTS, LENGTHS, VALUES};
 use super::{flat, spread, Walk, CHANNELS};
 use crate::judge::BANDS;
+use crate::scripts::faults::singles;
 use crate::scripts::flags::{converged, mask_flags};
 use crate::scripts::random::Random;
 use crate::scripts::spectra::{any_power, beside, powers, Power, SPECIALS, T};
@@ -58,11 +59,7 @@ fn thresholds(walk: &mut Walk, random: &mut Random) {
 fn faults(walk: &mut Walk, random: &mut Random) {
     walk.start(0);
     let good = good_call(random, 1, 1, 1);
-    for fault in COUNTS.iter().chain(&LENGTHS).chain(&VALUES) {
-        let mut call = good.clone();
-        fault(&mut call);
-        walk.update(&call);
-    }
+    walk.updates(&singles(&good, &FAULTS));
     for at in 0..VALUES.len() {
         let mut call = good.clone();
         VALUES[at](&mut call);

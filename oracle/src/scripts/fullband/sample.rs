@@ -4,6 +4,7 @@
 
 use super::{exact, example_start, ratio_of, start, Walk, HOLD, SWITCHES};
 use crate::judge::{BANDS, CAPTURE_CHANNELS, GREATEST_ERLE};
+use crate::scripts::faults::singles;
 use crate::scripts::part::refused::{good_call, FAULTS};
 use crate::scripts::part::starts::calls_without_a_start;
 use crate::scripts::part::{converged, flat, infinite, quiet, POINTS, SETTINGS};
@@ -137,11 +138,7 @@ fn faults(walk: &mut Walk, random: &mut Random) {
     walk.start(&example_start());
     let good = good_call(random, Power::Loud, 1, 1);
     walk.repeat(3, &good);
-    for fault in FAULTS.iter().copied().flatten() {
-        let mut call = good.clone();
-        fault(&mut call);
-        walk.update(&call);
-    }
+    walk.updates(&singles(&good, &FAULTS));
     let mut call = good.clone();
     for group in FAULTS.iter().rev() {
         group[0](&mut call);

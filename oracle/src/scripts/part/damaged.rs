@@ -3,11 +3,11 @@
 use super::refused::good_call;
 use super::{quiet, SETTINGS};
 use crate::kinds::part::{Part, Settings, TIMES};
-use crate::record::MAX_LENGTH;
-use crate::scripts::damage::{Lending, Records};
+use crate::record::{field_bytes, Body};
+use crate::scripts::damage::{longest_records, Lending, Records};
 use crate::scripts::random::Random;
 use crate::scripts::spectra::Power;
-use crate::scripts::{field_bytes, Script};
+use crate::scripts::Script;
 
 /// The place of a start's first switch among its fields.
 const FIRST_SWITCH: usize = 3;
@@ -15,23 +15,26 @@ const FIRST_SWITCH: usize = 3;
 pub fn scripts<P: Part>(unknown_kinds: &'static [u16]) -> Vec<Script> {
     let records = Records {
         good: good::<P>(),
-        bodies: vec![
-            (P::START, field_bytes(&good_start::<P>(1).body())),
-            (P::RESET, vec![]),
-        ],
+        bodies: vec![(P::START, good_start::<P>(1).body()), (P::RESET, vec![])],
         unknown_kinds,
         next: Script::reset::<P>,
     };
     let mut all = records.damaged();
-    all.extend(other_switches::<P>());
+    let switches = FIRST_SWITCH..FIRST_SWITCH + P::Start::SWITCHES;
+    let starts = [1, 5].map(|channels| good_start::<P>(channels).fields());
+    all.extend(records.other_switches(P::START, switches, &starts));
     let update = lending::<P>(P::UPDATE, &[]);
     let repeat = lending::<P>(P::REPEAT, &[3]);
     for lending in [&update, &repeat] {
         all.extend(lending.damaged());
-        all.extend(wrong_lengths_with_none_standing::<P>(lending));
+        all.extend(lending.wrong_lengths_with_none_standing());
     }
     all.extend(numbers_of_times::<P>(&repeat));
-    all.extend(longest_records::<P>());
+    all.extend(longest_records::<P>(&good_start::<P>(1), |flags| {
+        let mut call = quiet(1);
+        call.flags.resize(flags, true);
+        call
+    }));
     all
 }
 
@@ -63,6 +66,7 @@ fn lending<P: Part>(kind: u16, before: &[u32]) -> Lending {
         channels: before.len(),
         first_number: before.len() + 1,
         numbers: &[1, 65, 65, 65],
+        fields_behind: 0,
         wrapping: &[
             &[u32::MAX - 2, 66, 65, 65],
             &[u32::MAX - 258, 65, 130, 65],
@@ -84,55 +88,6 @@ fn lending<P: Part>(kind: u16, before: &[u32]) -> Lending {
         ],
         next: Script::reset::<P>,
     }
-}
-
-/// A switch above 1, also in starts that would be turned away.
-fn other_switches<P: Part>() -> Vec<Script> {
-    let mut scripts = Vec::new();
-    for place in FIRST_SWITCH..FIRST_SWITCH + P::Start::SWITCHES {
-        for switch in [2, 3, 256, 1 << 16, 1 << 24, 1 << 31, u32::MAX] {
-            for channels in [1, 5] {
-                let mut body = good_start::<P>(channels).body();
-                body[place] = switch;
-                let mut script = good::<P>();
-                script.record(P::START, &body);
-                script.reset::<P>();
-                scripts.push(script);
-            }
-        }
-    }
-    scripts
-}
-
-/// Bodies that are too short or too long, where none stands.
-fn wrong_lengths_with_none_standing<P: Part>(lending: &Lending) -> Vec<Script> {
-    let right = lending.body.len();
-    let script = |size: usize| {
-        let mut body = lending.body.clone();
-        body.resize(size, 0);
-        let mut script = Script::default();
-        script.whole(lending.kind, &body);
-        script.reset::<P>();
-        script
-    };
-    let sizes = [0, 19, 20, 24, right - 4, right - 1, right, right + 1];
-    sizes.into_iter().map(script).collect()
-}
-
-/// Updates of as many flags as the greatest length has room for, and one more.
-fn longest_records<P: Part>() -> Vec<Script> {
-    let mut call = quiet(1);
-    let others = call.body().len() - call.flags.len();
-    let room = MAX_LENGTH as usize - 2 - others;
-    let script = |flags: usize| {
-        call.flags.resize(flags, true);
-        let mut script = Script::default();
-        script.start::<P>(&good_start::<P>(1));
-        script.update::<P>(&call);
-        script.reset::<P>();
-        script
-    };
-    [room - 1, room, room + 1].map(script).into()
 }
 
 /// Repeats about the least and the greatest number of times, also where none

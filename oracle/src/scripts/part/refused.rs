@@ -1,6 +1,6 @@
 //! Calls that are turned away, for one fault and for several.
 
-use super::{call, Walk, SETTINGS};
+use super::{call, SETTINGS};
 use crate::judge::BANDS;
 use crate::kinds::call::Call;
 use crate::kinds::part::{Part, Settings};
@@ -10,6 +10,7 @@ use crate::scripts::faults::{
 use crate::scripts::flags::mask_flags;
 use crate::scripts::random::Random;
 use crate::scripts::spectra::{power, Power, Spectrum};
+use crate::scripts::walk::Walk;
 use crate::scripts::Script;
 
 impl Lends for Call {

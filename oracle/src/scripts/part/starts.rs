@@ -1,9 +1,10 @@
 //! Starts with settings about their limits.
 
-use super::{converged, quiet, Walk, SETTINGS};
+use super::{converged, quiet, SETTINGS};
 use crate::judge::{CAPTURE_CHANNELS, GREATEST_ERLE};
 use crate::kinds::part::{Part, Settings};
 use crate::scripts::spectra::LOUD;
+use crate::scripts::walk::Walk;
 use crate::scripts::Script;
 
 /// Numbers about the limits, far beyond them, and those that are none.
@@ -27,19 +28,15 @@ const VALUES: [f32; 16] = [
 ];
 
 /// Channel counts out of range, some with a good low byte or half.
-const WRONG_CHANNELS: [u32; 8] = [0, 5, 6, 257, 65_538, 1 << 31, (1 << 31) + 1, u32::MAX];
+pub const WRONG_CHANNELS: [u32; 8] = [0, 5, 6, 257, 65_538, 1 << 31, (1 << 31) + 1, u32::MAX];
 
 /// Every choice of three settings, and all channel counts with some of them.
 /// What each start leaves shows in a reset, or in an update.
 pub fn script<P: Part>() -> Script {
     let mut walk = Walk::<P>::default();
     calls_without_a_start(&mut walk);
-    for min in VALUES {
-        for max_l in VALUES {
-            for max_h in VALUES {
-                one_start(&mut walk, [min, max_l, max_h], 1);
-            }
-        }
+    for limits in every_limits() {
+        one_start(&mut walk, limits, 1);
     }
     for channels in WRONG_CHANNELS.into_iter().chain(CAPTURE_CHANNELS) {
         for settings in [SETTINGS[0], [1.0, f32::NAN, 1.0], [2.0, 1.0, 2.0]] {
@@ -47,6 +44,17 @@ pub fn script<P: Part>() -> Script {
         }
     }
     walk.script
+}
+
+/// Every choice of minimum, max_l and max_h.
+pub fn every_limits() -> Vec<[f32; 3]> {
+    let mut choices = Vec::new();
+    for min in VALUES {
+        for max_l in VALUES {
+            choices.extend(VALUES.map(|max_h| [min, max_l, max_h]));
+        }
+    }
+    choices
 }
 
 fn one_start<P: Part>(walk: &mut Walk<P>, limits: [f32; 3], channels: u32) {

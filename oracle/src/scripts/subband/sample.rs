@@ -6,6 +6,7 @@ use super::edges::special_call;
 use super::{example_start, start, Walk};
 use crate::judge::{BANDS, CAPTURE_CHANNELS, GREATEST_ERLE};
 use crate::kinds::subband::Start;
+use crate::scripts::faults::singles;
 use crate::scripts::part::refused::{good_call, FAULTS};
 use crate::scripts::part::starts::calls_without_a_start;
 use crate::scripts::part::{converged, flat, infinite, quiet, POINTS, SETTINGS};
@@ -181,11 +182,7 @@ fn special_values(walk: &mut Walk) {
 fn faults(walk: &mut Walk, random: &mut Random) {
     walk.start(&example_start());
     let good = good_call(random, Power::Near, 1, 1);
-    for fault in FAULTS.iter().copied().flatten() {
-        let mut call = good.clone();
-        fault(&mut call);
-        walk.update(&call);
-    }
+    walk.updates(&singles(&good, &FAULTS));
     for at in 0..FAULTS[0].len() {
         let mut call = good.clone();
         for group in FAULTS.iter().rev() {

@@ -29,7 +29,6 @@ replay-next-spec =
     (λ c κs. search needs)
     (λ c. search needs)
     (λ c κs. search needs)
-    (λ c κs. search needs)
     (λ c. search needs)
     (λ c. search needs)
     (λ c. search needs)

@@ -15,22 +15,22 @@ abbrev μ-loop : tie.MeasureT-loop
 flags-of-requires : tie.Need-flags-of-requires Inv-loop μ-loop
 flags-of-requires c κs =
     let start = c .before .before .before .before .before .before in
-    fewer {n = start .args .blocks} _ (omega arith) (start .pre .1 .0)
+    fewer {n = start .args .blocks} _ (omega arith) (start .pre .flagsFit)
 
 spectra-of-requires : tie.Need-spectra-of-requires Inv-loop μ-loop
 spectra-of-requires c κs =
     let start = c .before .before .before .before .before .before .before in
-    fewer {n = start .args .blocks} _ (omega arith) (start .pre .1 .1 .0)
+    fewer {n = start .args .blocks} _ (omega arith) (start .pre .renderFits)
 
 spectra-of-requires-2 : tie.Need-spectra-of-requires-2 Inv-loop μ-loop
 spectra-of-requires-2 c κs =
     let start = c .before .before .before .before .before .before .before .before in
-    fewer {n = start .args .blocks} _ (omega arith) (start .pre .1 .1 .1 .0)
+    fewer {n = start .args .blocks} _ (omega arith) (start .pre .captureFits)
 
 spectra-of-requires-3 : tie.Need-spectra-of-requires-3 Inv-loop μ-loop
 spectra-of-requires-3 c κs =
     let start = c .before .before .before .before .before .before .before .before .before in
-    fewer {n = start .args .blocks} _ (omega arith) (start .pre .1 .1 .1 .1)
+    fewer {n = start .args .blocks} _ (omega arith) (start .pre .residualFits)
 
 pub one-round-spec : {M : Type 1} → statement M
 one-round-spec =

@@ -1,42 +1,18 @@
--- Where each slice takes as many blocks as are asked for, the blocks lie in it.
+-- Where the blocks fit, they lie in the slices.
 use borrow.Author.Needs.{needs}
-use Rattle.speed.proofs.Room.{fewer}
+use borrow.Author.Tests.{not-false}
 use Rattle.speed.proofs.subband.speed_subband.Statement.{statement}
 use Rattle.speed.proofs.subband.speed_subband.Tie as tie
 
 all-rounds-requires : tie.Need-all-rounds-requires
-all-rounds-requires c κs =
-    let third = c .before .before in
-    let second = third .before .before in
-    let first = second .before .before in (
-      search needs,
-      (
-        fewer _ (first .if2 .left) (first .before .whole-blocks .ensures),
-        (
-          fewer _ (second .if3 .left) (second .before .whole-blocks2 .ensures),
-          (
-            fewer _ (third .if4 .left) (third .before .whole-blocks3 .ensures),
-            fewer _ (c .if5 .left) (c .before .whole-blocks4 .ensures),
-          ),
-        ),
-      ),
-    )
+all-rounds-requires c κs = c .before .blocks-fit .ensures (not-false _ (c .if1 .left))
+
+sum-requires : tie.Need-subband-sum-requires
+sum-requires c κs =
+    let fitted = c .before in
+    fitted .before .blocks-fit .ensures (not-false _ (fitted .if1 .left)) .fewChannels
 
 pub speed-subband-spec : {M : Type 1} → statement M
 speed-subband-spec =
     tie.close
-    (tie.spec
-    (λ c. search needs)
-    (λ c κs. search needs)
-    (λ c. search needs)
-    (λ c κs. search needs)
-    (λ c. search needs)
-    (λ c. search needs)
-    (λ c κs. search needs)
-    (λ c. search needs)
-    (λ c. search needs)
-    (λ c κs. search needs)
-    (λ c. search needs)
-    all-rounds-requires
-    (λ c κs. search needs)
-    (λ c. search needs))
+    (tie.spec (λ c κs. search needs) (λ c. search needs) all-rounds-requires sum-requires (λ c. search needs))

@@ -1,0 +1,177 @@
+// Updates of the signal-dependent estimator.
+use crate::blocks::blocks_fit;
+use crate::blocks::flags_of;
+use crate::blocks::spectra_of;
+use crate::figures::signal_dependent_sum;
+use signal_dependent_erle_estimator::RenderRing;
+use signal_dependent_erle_estimator::SignalDependentErleEstimator;
+use signal_dependent_erle_estimator::SignalDependentSettings;
+ghost use mathlib.Core.Bool.{true};
+ghost use mathlib.Core.Path.{_≡_};
+ghost use Prim.Native.Nat.{_≤_};
+ghost use lib.ListN.{length};
+ghost use Rattle.speed.specs.Room.{Room, Shared};
+
+// The ring has so many slots of one render channel, and so many numbers.
+const RING_SLOTS: usize = 20;
+
+const RING_LENGTH: usize = 1300;
+
+// The filter of each channel has so many blocks, and its responses so many numbers.
+const FILTER_LENGTH_BLOCKS: usize = 13;
+
+const RESPONSES_LENGTH: usize = 845;
+
+// The ring as a block reads it: one place further with each block.
+fn ring_of(block: usize) -> RenderRing {
+    RenderRing {
+        slots: RING_SLOTS,
+        channels: 1,
+        position: block % RING_SLOTS,
+    }
+}
+
+// All blocks once.
+fn one_round(
+    estimator: SignalDependentErleEstimator,
+    channels: usize,
+    flags: &[bool],
+    render: &[f32],
+    capture: &[f32],
+    residual: &[f32],
+    ring: &[f32],
+    responses: &[f32],
+    averages: &[f32],
+    blocks: usize,
+) -> SignalDependentErleEstimator
+    requires { ⌜ Room channels blocks (length (now flags)) (length (now render)) (length (now capture)) (length (now residual)) ⌝ }
+{
+    let response_blocks = [FILTER_LENGTH_BLOCKS; 4];
+    let mut estimator = estimator;
+    for block in 0..blocks {
+        let answer = estimator.update(
+            channels,
+            ring_of(block),
+            ring,
+            &response_blocks[0..channels],
+            responses,
+            spectra_of(render, block, 65),
+            spectra_of(capture, block, channels * 65),
+            spectra_of(residual, block, channels * 65),
+            averages,
+            averages,
+            flags_of(flags, block, channels),
+        );
+        estimator = answer.state;
+    }
+    estimator
+}
+
+// What the rounds begin with.
+fn started(channels: usize, sections: usize) -> SignalDependentErleEstimator {
+    let answer = SignalDependentErleEstimator::new(SignalDependentSettings {
+        min: 1.0,
+        max_l: 4.0,
+        max_h: 1.5,
+        onset_detection: true,
+        num_capture_channels: channels,
+        num_sections: sections,
+        filter_length_blocks: FILTER_LENGTH_BLOCKS,
+        delay_headroom_samples: 0,
+    });
+    answer.state
+}
+
+// All rounds.
+fn all_rounds(
+    estimator: SignalDependentErleEstimator,
+    channels: usize,
+    flags: &[bool],
+    render: &[f32],
+    capture: &[f32],
+    residual: &[f32],
+    ring: &[f32],
+    responses: &[f32],
+    averages: &[f32],
+    blocks: usize,
+    rounds: usize,
+) -> SignalDependentErleEstimator
+    requires { ⌜ Room channels blocks (length (now flags)) (length (now render)) (length (now capture)) (length (now residual)) ⌝ }
+{
+    let mut estimator = estimator;
+    for _ in 0..rounds {
+        estimator = one_round(
+            estimator,
+            channels,
+            flags,
+            render,
+            capture,
+            residual,
+            ring,
+            responses,
+            averages,
+            blocks,
+        );
+    }
+    estimator
+}
+
+// Whether what all blocks share is there in full.
+fn shared_fits(channels: usize, ring: &[f32], responses: &[f32], averages: &[f32]) -> bool
+    requires { ⌜ channels ≤ 4 ⌝ }
+    ensures { λ r. ⌜ (r ≡ true → Shared channels (length (now (ring .entry))) (length (now (responses .entry))) (length (now (averages .entry)))) ⌝ }
+{
+    if ring.len() < RING_LENGTH {
+        return false;
+    }
+    if responses.len() < channels * RESPONSES_LENGTH {
+        return false;
+    }
+    if averages.len() < channels * 65 {
+        return false;
+    }
+    true
+}
+
+// Runs a signal-dependent estimator over all blocks, in order, and that so many rounds. A block has one flag for each
+// channel, 65 render numbers, and 65 capture and 65 residual numbers for each channel; blocks lie one after the other. All
+// blocks share the ring, of 20 slots, from which block b reads at b modulo 20, the responses, 13 blocks for each channel,
+// and the averages, 65 numbers for each channel, which serve as both streams. Answers the sum of the plain and the
+// compensated figures; 0 where the channels are too many, or a slice is too short.
+#[no_mangle]
+pub extern "C" fn speed_signal_dependent(
+    channels: usize,
+    sections: usize,
+    flags: &[bool],
+    render: &[f32],
+    capture: &[f32],
+    residual: &[f32],
+    ring: &[f32],
+    responses: &[f32],
+    averages: &[f32],
+    blocks: usize,
+    rounds: usize,
+) -> f32 {
+    if !blocks_fit(channels, flags, render, capture, residual, blocks) {
+        return 0.0;
+    }
+    if !shared_fits(channels, ring, responses, averages) {
+        return 0.0;
+    }
+    let responses_end = channels * RESPONSES_LENGTH;
+    let averages_end = channels * 65;
+    let estimator = all_rounds(
+        started(channels, sections),
+        channels,
+        flags,
+        render,
+        capture,
+        residual,
+        &ring[0..RING_LENGTH],
+        &responses[0..responses_end],
+        &averages[0..averages_end],
+        blocks,
+        rounds,
+    );
+    signal_dependent_sum(estimator, channels)
+}
