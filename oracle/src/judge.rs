@@ -3,7 +3,7 @@
 
 use crate::kinds::call::Call;
 use crate::kinds::part::Settings;
-use crate::kinds::{erl, signal};
+use crate::kinds::{echo_call, erl, signal};
 use std::fmt;
 use std::ops::RangeInclusive;
 
@@ -129,7 +129,7 @@ pub fn signal_start(start: &signal::Start) -> Judged {
 /// 4: ring slots out of range, or headroom blocks above the slots. 9: a read
 /// place not below the slots. 5: a list of another length than the counts ask, or
 /// response blocks above the filter length. 6: a value out of range, read or not.
-pub fn signal_update(call: &signal::Call, start: &signal::Start) -> Judged {
+pub fn signal_update<const N: usize>(call: &echo_call::Call<N>, start: &signal::Start) -> Judged {
     refuse_if(call.channels != start.settings.channels, 21)?;
     refuse_if(!RENDER_CHANNELS.contains(&call.renders), 2)?;
     refuse_if(start.headroom_samples / BLOCK_SAMPLES > call.slots, 4)?;
@@ -140,19 +140,18 @@ pub fn signal_update(call: &signal::Call, start: &signal::Start) -> Judged {
 
 /// Whether the lists have the lengths that the counts ask, which are in range
 /// but for those of response blocks.
-fn signal_lists_asked(call: &signal::Call, length_blocks: u32) -> bool {
+fn signal_lists_asked<const N: usize>(call: &echo_call::Call<N>, length_blocks: u32) -> bool {
     let channels = call.channels as usize;
-    let [render, capture, residual, ring, average, compensated, responses] = call.lists();
     let counts = &call.response_blocks;
-    let of_all_channels = [capture, residual, average, compensated];
     counts.iter().all(|&count| count <= length_blocks)
         && call.flags.len() == channels
-        && render.len() == BANDS
-        && of_all_channels
+        && call.render.len() == BANDS
+        && call
+            .lists_of_channels()
             .iter()
             .all(|list| list.len() == BANDS * channels)
-        && ring.len() == BANDS * call.slots as usize * call.renders as usize
-        && responses.len() == BANDS * counts.iter().sum::<u32>() as usize
+        && call.ring.len() == BANDS * call.slots as usize * call.renders as usize
+        && call.responses.len() == BANDS * counts.iter().sum::<u32>() as usize
 }
 
 /// Each value is a number from 0, of either sign, to 2^100.

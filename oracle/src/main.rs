@@ -25,7 +25,7 @@ use std::path::Path;
 use std::process::ExitCode;
 
 const USAGE: &str = "usage:
-  oracle run PROGRAM < script > lines
+  oracle run PROGRAM [state] < script > lines
   oracle generate NAME [NUMBER] > script
   oracle compare [REPLAY [REPLAY_PARTS]]
   oracle samples PROGRAM DIR
@@ -36,7 +36,8 @@ fn main() -> ExitCode {
     let arguments: Vec<String> = env::args().skip(1).collect();
     let words: Vec<&str> = arguments.iter().map(String::as_str).collect();
     let done = match words[..] {
-        ["run", program] => run_script(program),
+        ["run", program] => run_script(program, false),
+        ["run", program, "state"] => run_script(program, true),
         ["generate", name] => generate(name, None),
         ["generate", name, number] => generate(name, Some(number)),
         ["compare", ref files @ ..] if files.len() <= Program::ALL.len() => compare_with(files),
@@ -53,11 +54,13 @@ fn main() -> ExitCode {
     }
 }
 
-fn run_script(program: &str) -> Result<ExitCode, String> {
+/// Runs a script; the state of the whole ERLE estimator is shown if asked for.
+fn run_script(program: &str, state: bool) -> Result<ExitCode, String> {
     let program = known(program)?;
     let mut script = Vec::new();
     io::stdin().read_to_end(&mut script).map_err(plain)?;
-    print_bytes(run::run(program, &script).0.as_bytes())
+    let (lines, _) = run::Run::showing(program, state, &script).finish();
+    print_bytes(lines.as_bytes())
 }
 
 fn known(program: &str) -> Result<Program, String> {

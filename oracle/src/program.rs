@@ -2,7 +2,7 @@
 
 #[derive(Debug, Clone, Copy, PartialEq, Eq)]
 pub enum Program {
-    /// Leaves, ERL and the signal-dependent estimator.
+    /// Leaves, ERL, the whole ERLE estimator and the signal-dependent one.
     Replay,
     /// The parts of the ERLE estimator, each alone.
     ReplayParts,

@@ -74,6 +74,15 @@ impl<'a> Fields<'a> {
         floats_of(take(&mut self.rest, size)?)
     }
 
+    /// Lists of so many binary32 numbers, one after the other.
+    pub fn lists<const N: usize>(&mut self, counts: [u32; N]) -> Result<[Vec<f32>; N], Malformed> {
+        let mut lists = [const { Vec::new() }; N];
+        for (list, count) in lists.iter_mut().zip(counts) {
+            *list = self.floats(count)?;
+        }
+        Ok(lists)
+    }
+
     /// All that remains, as binary32 numbers.
     pub fn floats_to_the_end(self) -> Result<Vec<f32>, Malformed> {
         floats_of(self.rest)
@@ -95,6 +104,17 @@ pub trait Body: Sized {
 
     /// The body that `read` reads.
     fn body(&self) -> Vec<u8>;
+}
+
+/// A body without fields.
+impl Body for () {
+    fn read(body: Fields<'_>) -> Result<Self, Malformed> {
+        body.end()
+    }
+
+    fn body(&self) -> Vec<u8> {
+        Vec::new()
+    }
 }
 
 fn floats_of(bytes: &[u8]) -> Result<Vec<f32>, Malformed> {

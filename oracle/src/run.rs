@@ -13,9 +13,14 @@ pub struct Run<'a> {
 
 impl<'a> Run<'a> {
     pub fn new(program: Program, script: &'a [u8]) -> Self {
+        Self::showing(program, false, script)
+    }
+
+    /// A run that shows what the whole ERLE estimator holds, if asked for.
+    pub fn showing(program: Program, state: bool, script: &'a [u8]) -> Self {
         Self {
             rest: script,
-            groups: Groups::new(program),
+            groups: Groups::new(program, state),
         }
     }
 
@@ -33,15 +38,19 @@ impl<'a> Run<'a> {
         }
         Some(&here[..here.len() - self.rest.len()])
     }
+
+    /// The lines of all that is left, and how many records gave them.
+    pub fn finish(mut self) -> (Lines, usize) {
+        let mut lines = Lines::default();
+        let mut records = 0;
+        while self.step(&mut lines).is_some() {
+            records += 1;
+        }
+        (lines, records)
+    }
 }
 
 /// The lines of a whole script, and how many records gave them.
 pub fn run(program: Program, script: &[u8]) -> (Lines, usize) {
-    let mut lines = Lines::default();
-    let mut run = Run::new(program, script);
-    let mut records = 0;
-    while run.step(&mut lines).is_some() {
-        records += 1;
-    }
-    (lines, records)
+    Run::new(program, script).finish()
 }

@@ -2,7 +2,9 @@
 //! estimator has a module of its own.
 
 mod blocks;
+mod echo;
 mod erl;
+mod erle;
 mod fullband;
 mod signal_dependent;
 mod subband;
@@ -22,7 +24,8 @@ pub fn speed() -> Result<(), String> {
     erl::speed()?;
     subband::speed()?;
     signal_dependent::speed()?;
-    fullband::speed()
+    fullband::speed()?;
+    erle::speed()
 }
 
 /// So many spectra of powers from 2^least up, within so many octaves.
@@ -33,6 +36,13 @@ fn spectra(random: &mut Random, count: usize, least: i32, octaves: u32) -> Vec<[
     };
     let spectrum = |_| std::array::from_fn(&mut value);
     (0..count).map(spectrum).collect()
+}
+
+/// The running sum of the figures of each channel, stream by stream.
+fn stream_sum(streams: &[&[[f32; BANDS]]]) -> f32 {
+    let channels = 0..streams[0].len();
+    let figures = channels.flat_map(|channel| streams.iter().flat_map(move |s| &s[channel]));
+    figures.fold(0.0, |sum, figure| sum + figure)
 }
 
 /// Checks that both sides give the same answer, times them by turns, and prints

@@ -1,7 +1,10 @@
 //! Values that document 01 and readings of the source give, asked of the
 //! published Rust itself.
 
+mod counts;
+mod echo_calls;
 mod erl;
+mod erle;
 mod fullband;
 mod signal;
 mod subband;
@@ -12,12 +15,13 @@ use crate::audio_processing::aec3::signal_dependent_erle_estimator::{
 use crate::judge;
 use crate::kinds::call::Call;
 use crate::kinds::part::Part;
+use crate::kinds::standing::Estimator;
 use crate::program::Program;
-use crate::record::take_record;
+use crate::record::{take_record, Record};
 use crate::run::run;
 use crate::scripts::{named, stored_sample, Script};
 
-/// The lines of leaves and ERL for a script that one closure fills.
+/// The lines of `replay` for a script that one closure fills.
 fn lines(fill: impl Fn(&mut Script)) -> String {
     lines_of(Program::Replay, fill)
 }
@@ -47,6 +51,23 @@ impl Standing {
         Self { text }
     }
 
+    /// After a start of an estimator of `replay` and these calls, each so many
+    /// times.
+    fn after_updates<E: Estimator>(start: &E::Start, calls: &[(usize, E::Call)]) -> Self {
+        let text = lines(|script| {
+            script.start::<E>(start);
+            for (times, call) in calls {
+                (0..*times).for_each(|_| script.update::<E>(call));
+            }
+        });
+        Self { text }
+    }
+
+    /// The last answer of an estimator of this name.
+    fn answer_of(&self, name: &str) -> String {
+        self.fields(&format!("{name} ")).join(" ")
+    }
+
     /// The fields of the last line that begins so.
     fn fields(&self, head: &str) -> Vec<&str> {
         let last = self.text.lines().rev().find_map(|l| l.strip_prefix(head));
@@ -71,20 +92,26 @@ fn number(hex: &str) -> f32 {
     f32::from_bits(u32::from_str_radix(hex, 16).unwrap())
 }
 
-/// How many records of a kind the scripts of a name hold; each is whole and
-/// none is large.
+/// How many records of a kind the scripts of a name hold.
 fn records_of_kind(name: &str, kind: u16) -> usize {
     let mut records = 0;
+    each_record(name, |_, record| records += (record.kind == kind) as usize);
+    records
+}
+
+/// Hands over all records of a name's scripts, and whether it is a script's first;
+/// each is whole and no script is large.
+fn each_record(name: &str, mut see: impl FnMut(bool, &Record<'_>)) {
     for make in named(name).unwrap().scripts() {
         let script = make();
         assert!(script.bytes.len() < 50_000_000);
         let mut rest = &script.bytes[..];
         while let Ok(record) = take_record(&mut rest) {
-            records += (record.kind == kind) as usize;
+            let size = record.body.len() + 6;
+            see(rest.len() + size == script.bytes.len(), &record);
         }
         assert!(rest.is_empty());
     }
-    records
 }
 
 #[test]
@@ -201,7 +228,7 @@ fn malformed_records_end_the_run() {
 #[test]
 fn the_samples_are_small() {
     for (program, script_bytes, line_bytes) in [
-        (Program::Replay, 475_000, 350_000),
+        (Program::Replay, 700_000, 750_000),
         (Program::ReplayParts, 350_000, 1_500_000),
     ] {
         let script = stored_sample(program);

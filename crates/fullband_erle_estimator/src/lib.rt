@@ -81,7 +81,7 @@ fn none_converged(converged_filters: &[bool]) -> bool
 }
 
 // Whether the render sum is above its threshold. It is not added up where no channel would look at it.
-fn is_loud(converged_filters: &[bool], x2: &[f32]) -> bool
+pub fn is_loud(converged_filters: &[bool], x2: &[f32]) -> bool
     ensures { λ r. ⌜ r ≡ loudFor (now («converged_filters» .entry)) (now (x2 .entry)) ⌝ }
 {
     if none_converged(converged_filters) {

@@ -2,6 +2,9 @@
 use crate::erl::replay_erl_reset;
 use crate::erl::replay_erl_start;
 use crate::erl::replay_erl_update;
+use crate::erle::replay_erle_reset;
+use crate::erle::replay_erle_start;
+use crate::erle::replay_erle_update;
 use crate::leaves::replay_log2;
 use crate::leaves::replay_ring;
 use crate::leaves::replay_sections;
@@ -34,6 +37,9 @@ fn replay_record(record: &[u8], standing: Standing, out: &mut [u8], at: usize) -
         0x0110 => replay_erl_start(record, standing, out, at),
         0x0111 => replay_erl_update(record, standing, out, at),
         0x0112 => replay_erl_reset(record, standing, out, at),
+        0x0120 => replay_erle_start(record, standing, out, at),
+        0x0121 => replay_erle_update(record, standing, out, at),
+        0x0122 => replay_erle_reset(record, standing, out, at),
         0x0140 => replay_signal_start(record, standing, out, at),
         0x0141 => replay_signal_update(record, standing, out, at),
         0x0142 => replay_signal_reset(record, standing, out, at),

@@ -1,13 +1,18 @@
 // Runs a script of library calls from standard input and writes every figure, or the number under which a call is
-// turned away, to standard output. It ends on every input, at a malformed record with the line `bad`.
+// turned away, to standard output. With the word `state` as its first argument it also writes what the ERLE estimator
+// holds inside. It ends on every input, at a malformed record with the line `bad`.
 mod erl;
+mod erle;
+mod erle_figures;
+mod erle_state;
 mod kinds;
 mod leaves;
 mod signal;
-mod signal_body;
 mod signal_figures;
 mod standing;
+mod update_body;
 
+use check::same;
 use kinds::replay_next;
 use script::flushed;
 use script::record_buffer;
@@ -16,8 +21,8 @@ use script::write_out;
 use standing::nothing_stands;
 
 // Nothing says that the input ends, so the loop counts its turns down from a number that no run uses up.
-fn run(buffer: &mut [u8], out: &mut [u8]) {
-    let mut standing = nothing_stands();
+fn run(buffer: &mut [u8], out: &mut [u8], shows_state: bool) {
+    let mut standing = nothing_stands(shows_state);
     let mut at = 0;
     let mut turns = u64::MAX;
     while turns > 0 {
@@ -33,8 +38,15 @@ fn run(buffer: &mut [u8], out: &mut [u8]) {
     write_out(out, at);
 }
 
+// Whether the inner state is asked for. A longer word finds no room and counts as none.
+fn state_asked() -> bool {
+    let mut word = [0; 5];
+    let n = os::arg(1, &mut word);
+    same(&word[0..n], b"state")
+}
+
 fn main() {
     let mut buffer = record_buffer();
     let mut out = text_buffer();
-    run(&mut buffer, &mut out);
+    run(&mut buffer, &mut out, state_asked());
 }

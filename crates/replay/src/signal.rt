@@ -1,16 +1,15 @@
 // Kinds 0140 to 0142: the signal-dependent estimator.
-use crate::signal_body::COUNTS;
-use crate::signal_body::MOST_COUNTS;
-use crate::signal_body::UpdateHead;
-use crate::signal_body::head_of;
-use crate::signal_body::num_responses;
-use crate::signal_body::places_of;
-use crate::signal_body::update_ok;
 use crate::signal_figures::put_figures;
 use crate::standing::Standing;
 use crate::standing::Step;
 use crate::standing::bad_step;
 use crate::standing::step_with;
+use crate::update_body::MOST_COUNTS;
+use crate::update_body::head_with_averages;
+use crate::update_body::num_responses;
+use crate::update_body::places_of;
+use crate::update_body::ring_of;
+use crate::update_body::update_ok;
 use encoding::float_of;
 use encoding::word_at;
 use script::MOST_BLOCK_FLOATS;
@@ -22,7 +21,6 @@ use script::floats_in;
 use script::none_stands;
 use script::put_answer;
 use script::start_refused;
-use signal_dependent_erle_estimator::RenderRing;
 use signal_dependent_erle_estimator::SignalDependentAnswer;
 use signal_dependent_erle_estimator::SignalDependentErleEstimator;
 use signal_dependent_erle_estimator::SignalDependentSettings;
@@ -72,17 +70,9 @@ pub fn replay_signal_start(record: &[u8], standing: Standing, out: &mut [u8], at
     answer_shown(standing, answer, b"start", out, at)
 }
 
-fn ring_of(head: UpdateHead) -> RenderRing {
-    RenderRing {
-        slots: head.slots as usize,
-        channels: head.render_channels as usize,
-        position: head.position as usize,
-    }
-}
-
 // The update that a record asks for.
 fn signal_updated(signal: SignalDependentErleEstimator, record: &[u8]) -> SignalDependentAnswer {
-    let head = head_of(record);
+    let head = head_with_averages(record);
     let places = places_of(head);
     let responses = num_responses(record, places);
     let mut ring_table = [0.0; MOST_BLOCK_FLOATS];
@@ -98,7 +88,7 @@ fn signal_updated(signal: SignalDependentErleEstimator, record: &[u8]) -> Signal
         head.channels as usize,
         ring_of(head),
         floats_in(&mut ring_table, record, places.spectra, head.spectra),
-        counts_in(&mut counts_table, record, COUNTS, head.channels),
+        counts_in(&mut counts_table, record, places.counts, head.channels),
         floats_in(&mut responses_table, record, places.responses, responses),
         floats_in(&mut x2_table, record, places.x2, head.x2),
         floats_in(&mut y2_table, record, places.y2, head.y2),
@@ -116,7 +106,7 @@ fn signal_updated(signal: SignalDependentErleEstimator, record: &[u8]) -> Signal
 
 // 0141: the body of an update. A malformed one is bad whatever stands.
 pub fn replay_signal_update(record: &[u8], standing: Standing, out: &mut [u8], at: usize) -> Step {
-    if !update_ok(record, places_of(head_of(record))) {
+    if !update_ok(record, places_of(head_with_averages(record))) {
         return bad_step(standing, out, at);
     }
     if !standing.signal_stands {

@@ -1,25 +1,11 @@
 // The figures of the signal-dependent estimator: for each channel the plain stream and the one that is answered when the
 // compensated stream is asked for. A channel gives 1,191 bytes, so that the text of a record, for four channels, fits the
 // 32,768 bytes that script::flushed leaves free.
+use channel_lines::put_compensated_line;
 use script::put_array_line;
-use script::put_band_line;
 use signal_dependent_erle_estimator::SignalDependentChannel;
 use signal_dependent_erle_estimator::SignalDependentErleEstimator;
 use signal_dependent_erle_estimator::SignalDependentSettings;
-use signal_dependent_erle_estimator::erle;
-
-// The compensated figures as the library hands them out.
-fn put_compensated_line(
-    out: &mut [u8],
-    at: usize,
-    channel: usize,
-    plain: [f32; 65],
-    held: [f32; 65],
-    onset_detection: bool,
-) -> usize {
-    let shown = erle(&plain, &held, true, onset_detection);
-    put_band_line(out, at, b"sigcomp", channel, shown)
-}
 
 // The lines of a channel; a record that the state does not use is not shown.
 fn put_channel(
@@ -35,7 +21,15 @@ fn put_channel(
     let plain = channel.erle;
     let held = channel.erle_onset_compensated;
     let at = put_array_line(out, at, b"sigplain", c, plain);
-    put_compensated_line(out, at, c, plain, held, settings.onset_detection)
+    put_compensated_line(
+        out,
+        at,
+        b"sigcomp",
+        c,
+        plain,
+        held,
+        settings.onset_detection,
+    )
 }
 
 // The lines of each channel of the state.

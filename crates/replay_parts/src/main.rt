@@ -6,7 +6,6 @@ mod fullband;
 mod fullband_figures;
 mod kinds;
 mod shown;
-mod signed;
 mod standing;
 mod subband;
 mod subband_figures;

@@ -18,11 +18,11 @@ use Rattle.aec3_common.proofs.Ranges.{to-hi, some-sections, few-sections, short
 use Rattle.spectrum_buffer.specs.Ring.{maxSlots, slotsOk, placeOk}
 use Rattle.section_echoes.specs.declared.RenderRing.{RenderRing}
 use Rattle.section_echoes.specs.Packed.{total}
-use Rattle.section_echoes.specs.Steps.{RingFits}
 use Rattle.section_echoes.specs.Walk.{slotLength}
 use Rattle.section_echoes.proofs.Packed.{each-at-most}
 use Rattle.signal_dependent_erle_estimator.specs.declared.settings.SignalDependentSettings.{SignalDependentSettings}
 use Rattle.signal_dependent_erle_estimator.specs.declared.SignalDependentErleEstimator.{SignalDependentErleEstimator}
+use Rattle.signal_dependent_erle_estimator.specs.Steps.{Passed}
 use Rattle.signal_dependent_erle_estimator.specs.SignalDependent.{Update, settingsRefusal, stateOk, slotsReach, ringRefusal, responsesOk, allLengthsOk, allValuesOk, refusalOf, updateRefusal}
 
 -- ---- settings
@@ -87,21 +87,6 @@ ring-passed headroom ring e =
     }
 
 -- ---- an update
-
--- an accepted update: a state and a ring that pass, and all that is lent as long as the n channels and the counts ask
-pub record Passed (s : SignalDependentErleEstimator) (u : Update) : Type 0 where
-  pub state : settingsRefusal (s .settings) ≡ accepted
-  pub count : u .channels ≡ s .settings .«num_capture_channels»
-  pub ring : RingFits (u .ring) (u .spectra)
-  pub flags : length (u .converged) ≡ u .channels
-  pub render : length (u .render) ≡ 65
-  pub capture : length (u .capture) ≡ u .channels * 65
-  pub residual : length (u .residual) ≡ u .channels * 65
-  pub average : length (u .average) ≡ u .channels * 65
-  pub averageCompensated : length (u .averageCompensated) ≡ u .channels * 65
-  pub counts : length (u .counts) ≡ u .channels
-  pub blocks : every (λ n. leb n 16) (u .counts) ≡ true
-  pub responses : length (u .responses) ≡ total (u .counts) * 65
 
 pub update-passed : (s : SignalDependentErleEstimator) (u : Update) → updateRefusal s u ≡ accepted → Passed s u
 unfolding updateRefusal refusalOf allLengthsOk responsesOk

@@ -1,3 +1,4 @@
 pub mod Channel
 pub mod Runs
 pub mod SignalDependent
+pub mod Steps

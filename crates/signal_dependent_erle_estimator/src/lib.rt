@@ -20,8 +20,8 @@ ghost use mathlib.Core.Path.{_≡_};
 ghost use Prim.Native.Nat.{_≤_};
 ghost use lib.ListN.{take};
 ghost use Rattle.aec3_common.specs.Lists.{every};
-ghost use Rattle.aec3_common.specs.Refusal.{accepted};
-ghost use Rattle.signal_dependent_erle_estimator.specs.SignalDependent.{Update, sameFirst, boundariesOf, channelOk, stateOk, started as SignalDependent·started, updated as SignalDependent·updated, updateRefusal, startAnswer, resetAnswer, updateAnswer};
+ghost use Rattle.signal_dependent_erle_estimator.specs.Steps.{Passed};
+ghost use Rattle.signal_dependent_erle_estimator.specs.SignalDependent.{Update, sameFirst, boundariesOf, channelOk, stateOk, started as SignalDependent·started, updated as SignalDependent·updated, startAnswer, resetAnswer, updateAnswer};
 
 pub struct SignalDependentErleEstimator {
     pub settings: SignalDependentSettings,
@@ -36,7 +36,7 @@ pub struct SignalDependentAnswer {
 }
 
 // The boundaries that settings give.
-fn boundaries_of(settings: SignalDependentSettings) -> [usize; 9]
+pub fn boundaries_of(settings: SignalDependentSettings) -> [usize; 9]
     ensures { λ r. ⌜ r ≡ boundariesOf settings ⌝ }
 {
     let sections = section_boundaries(
@@ -48,7 +48,7 @@ fn boundaries_of(settings: SignalDependentSettings) -> [usize; 9]
 }
 
 // Whether two tables of boundaries have the same first n.
-fn same_first(n: usize, held: &[usize; 9], given: &[usize; 9]) -> bool
+pub fn same_first(n: usize, held: &[usize; 9], given: &[usize; 9]) -> bool
     requires { ⌜ n ≤ 9 ⌝ }
     ensures { λ r. ⌜ r ≡ sameFirst n (now (held .entry)) (now (given .entry)) ⌝ }
 {
@@ -134,8 +134,8 @@ impl SignalDependentErleEstimator {
         }
     }
 
-    // An accepted block, with two sections or more: every channel has new active sections and streams, and a converged one learns.
-    fn updated(
+    // A block for a caller that has judged it, with two sections or more: every channel has new active sections and streams, and a converged one learns.
+    pub fn updated(
         mut self,
         num_capture_channels: usize,
         ring: RenderRing,
@@ -150,7 +150,7 @@ impl SignalDependentErleEstimator {
         converged_filters: &[bool],
     ) -> SignalDependentErleEstimator
         requires { ⌜ 2 ≤ self .settings .«num_sections» ⌝ }
-        requires { ⌜ updateRefusal self (record { channels = «num_capture_channels»; ring = ring; spectra = now (spectra); counts = now («response_blocks»); responses = now (responses); render = now (x2); capture = now (y2); residual = now (e2); average = now (average); averageCompensated = now («average_compensated»); converged = now («converged_filters») }) ≡ accepted ⌝ }
+        requires { ⌜ Passed self (record { channels = «num_capture_channels»; ring = ring; spectra = now (spectra); counts = now («response_blocks»); responses = now (responses); render = now (x2); capture = now (y2); residual = now (e2); average = now (average); averageCompensated = now («average_compensated»); converged = now («converged_filters») }) ⌝ }
         ensures { λ r. ⌜ r ≡ SignalDependent·updated self (record { channels = «num_capture_channels»; ring = ring; spectra = now (spectra .entry); counts = now («response_blocks» .entry); responses = now (responses .entry); render = now (x2 .entry); capture = now (y2 .entry); residual = now (e2 .entry); average = now (average .entry); averageCompensated = now («average_compensated» .entry); converged = now («converged_filters» .entry) }) ⌝ }
     {
         let settings = self.settings;

@@ -9,9 +9,7 @@ pub record Room (channels blocks flags render capture residual : ℕ) : Type 0 w
   pub captureFits : blocks * (channels * 65) ≤ capture
   pub residualFits : blocks * (channels * 65) ≤ residual
 
--- what all blocks share lies in slices of these lengths: a ring of 20 spectra, and 13 response spectra and an average for
--- each channel
-pub record Shared (channels ring responses averages : ℕ) : Type 0 where
+-- what all blocks share lies in slices of these lengths: a ring of 20 spectra, and 13 response spectra for each channel
+pub record Shared (channels ring responses : ℕ) : Type 0 where
   pub ringFits : 1300 ≤ ring
   pub responsesFit : channels * 845 ≤ responses
-  pub averagesFit : channels * 65 ≤ averages

@@ -2,7 +2,9 @@
 // ending, and claims no more.
 mod blocks;
 mod erl;
+mod erle;
 mod figures;
 mod fullband;
+mod ring;
 mod signal_dependent;
 mod subband;

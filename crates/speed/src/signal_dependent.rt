@@ -3,33 +3,15 @@ use crate::blocks::blocks_fit;
 use crate::blocks::flags_of;
 use crate::blocks::spectra_of;
 use crate::figures::signal_dependent_sum;
-use signal_dependent_erle_estimator::RenderRing;
+use crate::ring::FILTER_LENGTH_BLOCKS;
+use crate::ring::RESPONSES_LENGTH;
+use crate::ring::RING_LENGTH;
+use crate::ring::ring_fits;
+use crate::ring::ring_of;
 use signal_dependent_erle_estimator::SignalDependentErleEstimator;
 use signal_dependent_erle_estimator::SignalDependentSettings;
-ghost use mathlib.Core.Bool.{true};
-ghost use mathlib.Core.Path.{_≡_};
-ghost use Prim.Native.Nat.{_≤_};
 ghost use lib.ListN.{length};
-ghost use Rattle.speed.specs.Room.{Room, Shared};
-
-// The ring has so many slots of one render channel, and so many numbers.
-const RING_SLOTS: usize = 20;
-
-const RING_LENGTH: usize = 1300;
-
-// The filter of each channel has so many blocks, and its responses so many numbers.
-const FILTER_LENGTH_BLOCKS: usize = 13;
-
-const RESPONSES_LENGTH: usize = 845;
-
-// The ring as a block reads it: one place further with each block.
-fn ring_of(block: usize) -> RenderRing {
-    RenderRing {
-        slots: RING_SLOTS,
-        channels: 1,
-        position: block % RING_SLOTS,
-    }
-}
+ghost use Rattle.speed.specs.Room.{Room};
 
 // All blocks once.
 fn one_round(
@@ -116,23 +98,6 @@ fn all_rounds(
     estimator
 }
 
-// Whether what all blocks share is there in full.
-fn shared_fits(channels: usize, ring: &[f32], responses: &[f32], averages: &[f32]) -> bool
-    requires { ⌜ channels ≤ 4 ⌝ }
-    ensures { λ r. ⌜ (r ≡ true → Shared channels (length (now (ring .entry))) (length (now (responses .entry))) (length (now (averages .entry)))) ⌝ }
-{
-    if ring.len() < RING_LENGTH {
-        return false;
-    }
-    if responses.len() < channels * RESPONSES_LENGTH {
-        return false;
-    }
-    if averages.len() < channels * 65 {
-        return false;
-    }
-    true
-}
-
 // Runs a signal-dependent estimator over all blocks, in order, and that so many rounds. A block has one flag for each
 // channel, 65 render numbers, and 65 capture and 65 residual numbers for each channel; blocks lie one after the other. All
 // blocks share the ring, of 20 slots, from which block b reads at b modulo 20, the responses, 13 blocks for each channel,
@@ -155,11 +120,14 @@ pub extern "C" fn speed_signal_dependent(
     if !blocks_fit(channels, flags, render, capture, residual, blocks) {
         return 0.0;
     }
-    if !shared_fits(channels, ring, responses, averages) {
+    if !ring_fits(channels, ring, responses) {
         return 0.0;
     }
     let responses_end = channels * RESPONSES_LENGTH;
     let averages_end = channels * 65;
+    if averages.len() < averages_end {
+        return 0.0;
+    }
     let estimator = all_rounds(
         started(channels, sections),
         channels,

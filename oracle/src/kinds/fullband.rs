@@ -20,6 +20,7 @@ impl Estimator for FullBand {
     const START: u16 = 0x0150;
     type Start = Start;
     type Call = Call;
+    type Reset = ();
 
     fn judge_start(start: &Start) -> Judged {
         judge::erle_start(start.limits(), start.channels)
@@ -41,36 +42,44 @@ impl Estimator for FullBand {
         self.update(&render[0], captures, residuals, &call.flags);
     }
 
-    fn reset(&mut self) {
+    fn reset(&mut self, (): ()) {
         FullBandErleEstimator::reset(self);
     }
 
     fn figures(&self, lines: &mut Lines) {
-        let log2 = self.fullband_erle_log2();
-        let decibels = DECIBELS_PER_LOG2 * log2;
         let qualities = self.get_linear_quality_estimates();
-        lines.push(format_args!(
-            "full {} {} {}",
-            Hex(log2),
-            Hex(decibels),
-            fields(qualities.iter().map(|&quality| Optional(quality)))
-        ));
+        full(lines, self.fullband_erle_log2(), qualities);
         for c in 0..qualities.len() {
-            let held = peek_channel(self, c);
-            lines.push(format_args!(
-                "fullstate {c} {} {} {} {} {} {} {} {} {}",
-                held.hold,
-                held.points,
-                Hex(held.figure),
-                Hex(held.capture_sum),
-                Hex(held.residual_sum),
-                Hex(held.greatest),
-                Hex(held.least),
-                Optional(held.log2),
-                Hex(held.quality)
-            ));
+            state(lines, self, c);
         }
     }
+}
+
+/// The figure of all channels, also in decibels, and the channels' qualities.
+pub fn full(lines: &mut Lines, log2: f32, qualities: &[Option<f32>]) {
+    lines.push(format_args!(
+        "full {} {} {}",
+        Hex(log2),
+        Hex(DECIBELS_PER_LOG2 * log2),
+        fields(qualities.iter().map(|&quality| Optional(quality)))
+    ));
+}
+
+/// What a channel holds.
+pub fn state(lines: &mut Lines, estimator: &FullBand, c: usize) {
+    let held = peek_channel(estimator, c);
+    lines.push(format_args!(
+        "fullstate {c} {} {} {} {} {} {} {} {} {}",
+        held.hold,
+        held.points,
+        Hex(held.figure),
+        Hex(held.capture_sum),
+        Hex(held.residual_sum),
+        Hex(held.greatest),
+        Hex(held.least),
+        Optional(held.log2),
+        Hex(held.quality)
+    ));
 }
 
 /// The settings of a start.

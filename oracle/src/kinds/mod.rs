@@ -1,7 +1,9 @@
 //! The kinds of records, one module for each group of them.
 
 pub mod call;
+pub mod echo_call;
 pub mod erl;
+pub mod erle;
 pub mod fullband;
 pub mod leaves;
 pub mod part;
@@ -15,6 +17,7 @@ use crate::lines::{Answer, Lines};
 use crate::program::Program;
 use crate::record::{Malformed, Record};
 use erl::Erl;
+use erle::Erle;
 use fullband::FullBand;
 use leaves::Leaves;
 use part::Part;
@@ -27,6 +30,7 @@ pub enum Groups {
     Replay {
         leaves: Leaves,
         erl: Erl,
+        erle: Box<Standing<Erle>>,
         signal: Box<Standing<Signal>>,
     },
     ReplayParts {
@@ -36,11 +40,13 @@ pub enum Groups {
 }
 
 impl Groups {
-    pub fn new(program: Program) -> Self {
+    /// The whole ERLE estimator's state is shown if asked for.
+    pub fn new(program: Program, state_shown: bool) -> Self {
         match program {
             Program::Replay => Self::Replay {
                 leaves: Leaves::new(),
                 erl: Erl::default(),
+                erle: Box::new(Standing::new(state_shown)),
                 signal: Box::default(),
             },
             Program::ReplayParts => Self::ReplayParts {
@@ -56,9 +62,11 @@ impl Groups {
             Self::Replay {
                 leaves,
                 erl,
+                erle,
                 signal,
             } => match record.kind {
                 leaves::LOG2 | leaves::RING | leaves::SECTIONS => leaves.answer(record, lines),
+                Erle::START..=Erle::RESET => erle.answer(record, lines),
                 Signal::START..=Signal::RESET => signal.answer(record, lines),
                 _ => erl.answer(record, lines),
             },

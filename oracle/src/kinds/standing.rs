@@ -17,6 +17,8 @@ pub trait Estimator: Sized {
 
     type Start: Body;
     type Call: Body;
+    /// What a reset says; nothing, mostly.
+    type Reset: Body + Default;
 
     fn judge_start(start: &Self::Start) -> Judged;
 
@@ -28,10 +30,13 @@ pub trait Estimator: Sized {
     /// One update, for a call that is accepted.
     fn run(&mut self, call: &Self::Call);
 
-    fn reset(&mut self);
+    fn reset(&mut self, reset: Self::Reset);
 
-    /// The figures and what is held beside them.
+    /// The figures; of a part of the ERLE estimator also what is held beside them.
     fn figures(&self, lines: &mut Lines);
+
+    /// What is held beside the figures, where that is shown only if asked for.
+    fn state(&self, _lines: &mut Lines) {}
 
     /// A new estimator, unless the settings are turned away.
     fn started(start: &Self::Start) -> Result<Self, Refusal> {
@@ -50,11 +55,22 @@ pub trait Estimator: Sized {
 /// The estimator that stands, if one does.
 pub struct Standing<E> {
     estimator: Option<E>,
+    /// Whether what is held is shown after the figures.
+    state_shown: bool,
 }
 
 impl<E> Default for Standing<E> {
     fn default() -> Self {
-        Self { estimator: None }
+        Self::new(false)
+    }
+}
+
+impl<E> Standing<E> {
+    pub fn new(state_shown: bool) -> Self {
+        Self {
+            estimator: None,
+            state_shown,
+        }
     }
 }
 
@@ -100,9 +116,9 @@ impl<E: Estimator> Standing<E> {
     }
 
     fn reset(&mut self, body: Fields<'_>, lines: &mut Lines) -> Result<(), Malformed> {
-        body.end()?;
+        let reset = E::Reset::read(body)?;
         answer_call(E::NAME, "reset", &mut self.estimator, lines, |estimator| {
-            estimator.reset();
+            estimator.reset(reset);
             Ok(())
         });
         Ok(())
@@ -112,6 +128,9 @@ impl<E: Estimator> Standing<E> {
     pub fn figures(&self, lines: &mut Lines) {
         if let Some(estimator) = &self.estimator {
             estimator.figures(lines);
+            if self.state_shown {
+                estimator.state(lines);
+            }
         }
     }
 }

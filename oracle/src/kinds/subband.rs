@@ -4,7 +4,7 @@ use super::call::Call;
 use super::part::{Part, Settings};
 use super::standing::Estimator;
 use crate::audio_processing::aec3::subband_erle_estimator::{peek_channel, SubbandErleEstimator};
-use crate::judge::{self, Judged};
+use crate::judge::{self, Judged, BANDS};
 use crate::lines::{fields, Lines};
 
 pub type Subband = SubbandErleEstimator;
@@ -16,6 +16,7 @@ impl Estimator for Subband {
     const START: u16 = 0x0130;
     type Start = Start;
     type Call = Call;
+    type Reset = ();
 
     fn judge_start(start: &Start) -> Judged {
         judge::erle_start(start.limits(), start.channels)
@@ -36,26 +37,42 @@ impl Estimator for Subband {
         self.update(&render[0], captures, residuals, &call.flags);
     }
 
-    fn reset(&mut self) {
+    fn reset(&mut self, (): ()) {
         SubbandErleEstimator::reset(self);
     }
 
     fn figures(&self, lines: &mut Lines) {
         for c in 0..self.erle(false).len() {
-            let held = peek_channel(self, c);
-            lines.push_hex(format_args!("plain {c}"), &self.erle(false)[c]);
-            lines.push_hex(format_args!("comp {c}"), &self.erle(true)[c]);
-            lines.push_hex(format_args!("unb {c}"), &self.erle_unbounded()[c]);
-            lines.push_hex(format_args!("onsets {c}"), &self.erle_onsets()[c]);
-            lines.push_hex(format_args!("rawcomp {c}"), held.compensated);
-            lines.push(format_args!("points {c} {}", held.points));
-            lines.push_hex(format_args!("y2sum {c}"), held.capture_sums);
-            lines.push_hex(format_args!("e2sum {c}"), held.residual_sums);
-            lines.push_flags(format_args!("low {c}"), held.low_energy);
-            lines.push_flags(format_args!("wait {c}"), held.waiting);
-            lines.push(format_args!("hold {c} {}", fields(held.holds)));
+            let shown = [
+                self.erle(false),
+                self.erle(true),
+                self.erle_unbounded(),
+                self.erle_onsets(),
+            ];
+            streams(lines, c, shown.map(|stream| &stream[c]));
+            let compensated = peek_channel(self, c).compensated;
+            lines.push_hex(format_args!("rawcomp {c}"), compensated);
+            state(lines, self, c);
         }
     }
+}
+
+/// A channel's figures: plain, compensated, uncapped and those of onsets.
+pub fn streams(lines: &mut Lines, c: usize, figures: [&[f32; BANDS]; 4]) {
+    for (name, figures) in ["plain", "comp", "unb", "onsets"].iter().zip(figures) {
+        lines.push_hex(format_args!("{name} {c}"), figures);
+    }
+}
+
+/// What a channel holds beside its streams.
+pub fn state(lines: &mut Lines, estimator: &Subband, c: usize) {
+    let held = peek_channel(estimator, c);
+    lines.push(format_args!("points {c} {}", held.points));
+    lines.push_hex(format_args!("y2sum {c}"), held.capture_sums);
+    lines.push_hex(format_args!("e2sum {c}"), held.residual_sums);
+    lines.push_flags(format_args!("low {c}"), held.low_energy);
+    lines.push_flags(format_args!("wait {c}"), held.waiting);
+    lines.push(format_args!("hold {c} {}", fields(held.holds)));
 }
 
 /// The settings of a start.

@@ -4,7 +4,7 @@
 use super::random::Random;
 use super::Script;
 use crate::kinds::standing::Estimator;
-use crate::record::{Body, MAX_LENGTH};
+use crate::record::{field_bytes, Body, MAX_LENGTH};
 use std::ops::Range;
 
 /// The bytes before a body: the length and the kind.
@@ -331,5 +331,34 @@ impl Lending {
         }
         scripts.push(self.with_body(&vec![0; self.first_flag()]));
         scripts
+    }
+
+    /// Channel counts about the most for which response block counts are said, with
+    /// just so many bytes behind the fields before them, and four less and more.
+    pub fn numbers_of_counts(&self) -> Vec<Script> {
+        let fields = self.first_number + self.numbers.len();
+        let mut scripts = Vec::new();
+        for channels in [0, 1, 2, 15, 16, 17, 18, 256, 1 << 31, u32::MAX] {
+            let counts = channels.min(16) as usize;
+            for count in counts.saturating_sub(1)..=counts + 1 {
+                let mut body = field_bytes(&[channels, 1, 1, 0]);
+                body.resize(4 * (fields + count), 0);
+                scripts.push(self.with_body(&body));
+            }
+        }
+        scripts
+    }
+
+    /// A last list, as long as the record leaves, that ends within a number, is one
+    /// number shorter or longer, or lacks one or two spectra of so many bands.
+    pub fn ends(&self, bands: usize) -> Vec<Script> {
+        let right = self.body.len();
+        let sizes = (right - 5..right + 6).chain([right - 4 * bands, right - 8 * bands]);
+        let body = |size: usize| {
+            let mut body = self.body.clone();
+            body.resize(size, 0);
+            body
+        };
+        sizes.map(|size| self.with_body(&body(size))).collect()
     }
 }

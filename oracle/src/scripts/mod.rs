@@ -3,6 +3,7 @@
 mod damage;
 mod damaged;
 pub mod erl;
+pub mod erle;
 mod faults;
 pub mod flags;
 pub mod fullband;
@@ -50,7 +51,7 @@ impl Name {
     }
 }
 
-pub const NAMES: [Name; 11] = [
+pub const NAMES: [Name; 13] = [
     Name::new("log2", Program::Replay, || vec![Box::new(leaves::log2)]),
     Name::new("ring", Program::Replay, || vec![Box::new(leaves::ring)]),
     Name::new("sections", Program::Replay, || {
@@ -58,6 +59,10 @@ pub const NAMES: [Name; 11] = [
     }),
     Name::new("erl", Program::Replay, erl::scripts),
     Name::new("damaged", Program::Replay, || made(damaged::scripts())),
+    Name::new("erle", Program::Replay, erle::scripts),
+    Name::new("damaged_erle", Program::Replay, || {
+        made(erle::damaged_scripts())
+    }),
     Name::new("signal", Program::Replay, signal::scripts),
     Name::new("damaged_signal", Program::Replay, || {
         made(signal::damaged_scripts())
@@ -131,8 +136,13 @@ impl Script {
         self.whole(E::UPDATE, &call.body());
     }
 
+    /// A reset that says nothing, or as little as it can.
     pub fn reset<E: Estimator>(&mut self) {
-        self.record(E::RESET, &[]);
+        self.reset_as::<E>(&E::Reset::default());
+    }
+
+    pub fn reset_as<E: Estimator>(&mut self, reset: &E::Reset) {
+        self.whole(E::RESET, &reset.body());
     }
 
     /// The same update of a part of the ERLE estimator so many times.

@@ -4,7 +4,7 @@
 
 use super::leaves::{random_pattern, LOG2_SPECIALS};
 use super::random::Random;
-use super::{erl, signal, Script};
+use super::{erl, erle, signal, Script};
 
 pub fn script() -> Script {
     let mut script = Script::default();
@@ -15,6 +15,7 @@ pub fn script() -> Script {
     random_calls(&mut script);
     script = erl::sample::add(script);
     script = signal::sample::add(script);
+    script = erle::sample::add(script);
     script.log2(0x3F80_0000);
     script.bytes.pop();
     script

@@ -7,12 +7,12 @@ mod counts;
 mod damaged;
 mod echoes;
 mod powers;
-mod refused;
+pub mod refused;
 mod rings;
 mod roundings;
 pub mod sample;
 mod starts;
-mod stretches;
+pub mod stretches;
 mod targets;
 mod thresholds;
 
@@ -64,7 +64,7 @@ pub fn scripts() -> Vec<Maker> {
 }
 
 /// Sections, filter length in blocks and headroom in samples.
-type Filter = [u32; 3];
+pub type Filter = [u32; 3];
 
 /// A start with these settings.
 pub fn start(limits: [f32; 3], onset: bool, channels: usize, filter: Filter) -> Start {
@@ -101,13 +101,13 @@ impl Start {
     }
 
     /// The least ring that is accepted.
-    fn least_ring(&self) -> usize {
+    pub fn least_ring(&self) -> usize {
         self.headroom_blocks().max(1) as usize
     }
 
     /// A converged call in which all the echo of all channels is in one section.
     /// Each channel has a ratio of its own.
-    fn lesson(&self, section: usize, ratio: f32) -> Call {
+    pub fn lesson(&self, section: usize, ratio: f32) -> Call {
         let channels = self.channels();
         let block = self.boundaries()[section];
         let mut call = flat(&vec![true; channels], [LOUD, ratio, 1.0], 20.0)
@@ -140,7 +140,7 @@ fn draw_limits(random: &mut Random) -> [f32; 3] {
 }
 
 /// Any sections, filter length and headroom that are accepted.
-fn draw_filter(random: &mut Random) -> Filter {
+pub fn draw_filter(random: &mut Random) -> Filter {
     let sections = match random.below(24) {
         0 => 1,
         _ => 2 + random.below(7),

@@ -53,9 +53,13 @@ impl<E: Estimator> Walk<E> {
     }
 
     pub fn reset(&mut self) {
-        self.script.reset::<E>();
+        self.reset_as(E::Reset::default());
+    }
+
+    pub fn reset_as(&mut self, reset: E::Reset) {
+        self.script.reset_as::<E>(&reset);
         if let Some(estimator) = &mut self.estimator {
-            estimator.reset();
+            estimator.reset(reset);
         }
     }
 

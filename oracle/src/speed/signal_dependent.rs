@@ -1,7 +1,8 @@
 //! The speed of signal-dependent updates.
 
-use super::blocks::{Blocks, FLAGS};
-use super::{measure, spectra, BLOCKS, ROUNDS};
+use super::blocks::Blocks;
+use super::echo::{each_choice, Echo, LENGTH_BLOCKS};
+use super::{measure, spectra, stream_sum, BLOCKS, ROUNDS};
 use crate::judge::BANDS;
 use crate::kinds::ring::Ring;
 use crate::kinds::signal::{Signal, Start};
@@ -42,51 +43,28 @@ extern "C" {
     ) -> f32;
 }
 
-const SLOTS: usize = 20;
-const LENGTH_BLOCKS: usize = 13;
-
 pub fn speed() -> Result<(), String> {
-    for channels in [1, 4] {
-        for sections in [2, 8] {
-            for (flags, word) in FLAGS {
-                let case = Case::new(channels, sections, flags);
-                let name = format!("signal {channels} channels {sections} sections {word}");
-                measure(&name, || case.rust(), || case.port())?;
-            }
-        }
-    }
-    Ok(())
+    each_choice([2, 8], |channels, sections, flags, choice| {
+        let case = Case::new(channels, sections, flags);
+        measure(&format!("signal {choice}"), || case.rust(), || case.port())
+    })
 }
 
 struct Case {
     blocks: Blocks,
     sections: usize,
-    ring: Vec<[f32; BANDS]>,
-    /// The response blocks of each channel.
-    responses: Vec<Vec<[f32; BANDS]>>,
+    echo: Echo,
     averages: Vec<[f32; BANDS]>,
 }
 
 impl Case {
-    /// Responses that fall from block to block, in each band at a rate of its own,
-    /// so that the bands' active sections differ; averages from 1 to 4.
+    /// Averages are from 1 to 4.
     fn new(channels: usize, sections: usize, flags: Flags) -> Self {
         let mut random = Random::new(32);
-        let mut response = |_| {
-            let mut blocks = spectra(&mut random, LENGTH_BLOCKS, -1, 2);
-            for band in 0..BANDS {
-                let rate = 3.0 * random.unit();
-                for (block, spectrum) in blocks.iter_mut().enumerate() {
-                    spectrum[band] *= (-rate * block as f32).exp2();
-                }
-            }
-            blocks
-        };
         Self {
             blocks: Blocks::new(channels, flags),
             sections,
-            responses: (0..channels).map(&mut response).collect(),
-            ring: spectra(&mut random, SLOTS, 22, 6),
+            echo: Echo::new(&mut random, channels),
             averages: spectra(&mut random, channels, 0, 2),
         }
     }
@@ -98,13 +76,13 @@ impl Case {
 
     fn rust(&self) -> f32 {
         let mut signal = Signal::started(&self.start()).expect("accepted settings");
-        let mut ring = Ring::new(1, &self.ring);
-        let mut places = (0..BLOCKS).map(|block| block % SLOTS).cycle();
+        let mut ring = Ring::new(1, &self.echo.ring);
+        let mut places = Echo::places();
         self.blocks.each(|x2, y2, e2, converged| {
             let place = places.next().expect("places without end");
             signal.estimator.update(
                 &ring.at(place),
-                &self.responses,
+                &self.echo.responses,
                 x2,
                 y2,
                 e2,
@@ -113,17 +91,17 @@ impl Case {
                 converged,
             );
         });
-        figure_sum(&signal)
+        stream_sum(&[signal.estimator.erle(false), signal.estimator.erle(true)])
     }
 
     fn port(&self) -> f32 {
         let blocks = &self.blocks;
-        let responses = self.responses.concat();
+        let responses = self.echo.responses.concat();
         let [render, capture, residual, ring, responses, averages] = [
             &blocks.render,
             &blocks.capture,
             &blocks.residual,
-            &self.ring,
+            &self.echo.ring,
             &responses,
             &self.averages,
         ]
@@ -153,15 +131,4 @@ impl Case {
             )
         }
     }
-}
-
-fn figure_sum(signal: &Signal) -> f32 {
-    let streams = [signal.estimator.erle(false), signal.estimator.erle(true)];
-    let mut sum = 0.0;
-    for channel in 0..streams[0].len() {
-        for stream in streams {
-            sum = stream[channel].iter().fold(sum, |sum, figure| sum + figure);
-        }
-    }
-    sum
 }

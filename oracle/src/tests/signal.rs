@@ -2,9 +2,10 @@
 
 mod reached;
 
+use super::echo_calls::{at_most_sixteen_counts, refused_in_order};
 use super::{lines, Standing};
 use crate::judge::{BANDS, GREATEST_VALUE};
-use crate::kinds::signal::{Call, Signal, Start};
+use crate::kinds::signal::{Call, Signal, Start, COMPENSATED, PLAIN};
 use crate::kinds::standing::Estimator;
 use crate::record::Body;
 use crate::scripts::signal::calls::{blocks_with, flat, only_block, SUBBANDS};
@@ -19,13 +20,7 @@ const FIRST: u32 = 0x4000_0000;
 
 /// After a start and these calls, each so many times.
 fn after(start: &Start, calls: &[(usize, Call)]) -> Standing {
-    let text = lines(|script| {
-        script.start::<Signal>(start);
-        for (times, call) in calls {
-            (0..*times).for_each(|_| script.update::<Signal>(call));
-        }
-    });
-    Standing { text }
+    Standing::after_updates::<Signal>(start, calls)
 }
 
 /// A converged call on a ring of four ones, with a ratio of 4 and averages of 2.
@@ -210,8 +205,8 @@ fn averages_outside_the_limits_are_clamped() {
 #[test]
 fn the_compensated_stream_has_its_own_averages_if_onsets_are_detected() {
     let mut call = flat(&[false], [0.0; 3], 3.0);
-    call.compensated.fill(2.0);
-    call.average[64] = 1.0;
+    call.averages[COMPENSATED].fill(2.0);
+    call.averages[PLAIN][64] = 1.0;
     for (onset, bits) in [(true, 2_f32), (false, 3.0)] {
         let start = start([1.0, 4.0, 4.0], onset, 1, [2, 4, 0]);
         let standing = after(&start, &[(1, call.clone())]);
@@ -243,7 +238,7 @@ fn one_section_is_judged_and_changes_nothing() {
 impl Standing {
     /// The last answer.
     fn answer(&self) -> String {
-        self.fields("signal ").join(" ")
+        self.answer_of("signal")
     }
 }
 
@@ -267,22 +262,12 @@ fn refused_starts_in_their_order() {
 #[test]
 fn refused_updates_in_their_order() {
     let start = start([1.0, 4.0, 1.5], true, 2, [2, 4, 128]);
-    let mut call = flat(&[true, true], [LOUD, GREATEST_VALUE, -0.0], 0.0).on_ones(2);
-    let answer = |call: &Call| after(&start, &[(2, call.clone())]).answer();
-    call = call.answering(&[only_block(3), Vec::new()]);
-    assert_eq!(answer(&call), "ok");
-    call.compensated[129] = f32::NAN;
-    assert_eq!(answer(&call), "refused 6");
-    call.response_blocks = vec![5, u32::MAX];
-    assert_eq!(answer(&call), "refused 5");
-    call.place = 2;
-    assert_eq!(answer(&call), "refused 9");
-    call.slots = 1;
-    assert_eq!(answer(&call), "refused 4");
-    call.renders = 0;
-    assert_eq!(answer(&call), "refused 2");
-    call.channels = 3;
-    assert_eq!(answer(&call), "refused 21");
+    let call = flat(&[true, true], [LOUD, GREATEST_VALUE, -0.0], 0.0).on_ones(2);
+    refused_in_order(
+        call.answering(&[only_block(3), Vec::new()]),
+        |call| call.averages[COMPENSATED][129] = f32::NAN,
+        |call| after(&start, &[(2, call.clone())]).answer(),
+    );
 }
 
 #[test]
@@ -306,24 +291,7 @@ fn counts_are_judged_before_they_are_added() {
 
 #[test]
 fn at_most_sixteen_response_block_counts_are_said() {
-    let answer = |channels: u32, counts: usize| {
-        let text = lines(|script| {
-            let mut call = flat(&[true], [LOUD, 3.0, 1.0], 2.0);
-            call.channels = channels;
-            let mut body = call.body();
-            // The lists are empty, so nothing but fields is left.
-            body[16..44].fill(0);
-            body.resize(44 + 4 * counts, 0);
-            script.start::<Signal>(&example_start());
-            script.whole(Signal::UPDATE, &body);
-        });
-        let answer = text.lines().nth(3).unwrap();
-        answer.to_string()
-    };
-    for (channels, counts) in [(2, 2), (16, 16), (17, 16), (u32::MAX, 16)] {
-        assert_eq!(answer(channels, counts), "signal refused 21");
-        assert_eq!(answer(channels, counts - 1), "bad");
-    }
+    at_most_sixteen_counts::<Signal>(&example_start(), 11);
 }
 
 #[test]

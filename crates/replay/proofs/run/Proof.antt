@@ -6,11 +6,11 @@ use Rattle.replay.proofs.run.Statement.{statement}
 use Rattle.replay.proofs.run.Tie as tie
 
 abbrev Inv-loop : tie.InvT-loop
-Inv-loop buffer₀ out₀ standing₀ at₀ turns₀ buffer out standing at turns =
+Inv-loop buffer₀ out₀ shows-state standing₀ at₀ turns₀ buffer out standing at turns =
     (length buffer ≡ length buffer₀) × (length out ≡ length out₀)
 
 abbrev μ-loop : tie.MeasureT-loop
-μ-loop buffer₀ out₀ standing₀ at₀ turns₀ buffer out standing at turns = turns
+μ-loop buffer₀ out₀ shows-state standing₀ at₀ turns₀ buffer out standing at turns = turns
 
 pub run-spec : {M : Type 1} → statement M
 run-spec =

@@ -49,10 +49,10 @@ fn show(random: &mut Random, walk: &mut Walk, start: &Start, manner: Average) {
         let signal = walk.estimator.as_ref();
         for channel in 0..channels {
             let bands = channel * BANDS..(channel + 1) * BANDS;
-            let average = manner.draw(random, signal, channel);
-            call.average[bands.clone()].copy_from_slice(&average);
-            let compensated = manner.draw(random, signal, channel);
-            call.compensated[bands].copy_from_slice(&compensated);
+            for averages in &mut call.averages {
+                let drawn = manner.draw(random, signal, channel);
+                averages[bands.clone()].copy_from_slice(&drawn);
+            }
         }
         walk.update(&call);
     }

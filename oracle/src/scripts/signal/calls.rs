@@ -1,6 +1,7 @@
 //! Calls of the signal-dependent estimator, and echoes for them.
 
 use crate::judge::BANDS;
+use crate::kinds::echo_call;
 use crate::kinds::signal::Call;
 use crate::scripts::spectra::Spectrum;
 
@@ -23,13 +24,12 @@ pub fn flat(flags: &[bool], [render, capture, residual]: [f32; 3], average: f32)
         capture: of_all_channels(capture),
         residual: of_all_channels(residual),
         ring: vec![1.0; BANDS],
-        average: of_all_channels(average),
-        compensated: of_all_channels(average),
+        averages: [of_all_channels(average), of_all_channels(average)],
         responses: Vec::new(),
     }
 }
 
-impl Call {
+impl<const AVERAGES: usize> echo_call::Call<AVERAGES> {
     /// The call on a ring of these spectra, slot by slot and render by render.
     pub fn on_ring(self, renders: usize, place: usize, spectra: &[Spectrum]) -> Self {
         Self {

@@ -5,7 +5,7 @@
 use super::calls::SUBBANDS;
 use super::{start, Walk, UPDATES_WITHOUT_FACTOR, WIDE};
 use crate::audio_processing::aec3::signal_dependent_erle_estimator::peek_channel;
-use crate::kinds::signal::{Call, Start};
+use crate::kinds::signal::{Call, Start, COMPENSATED};
 use crate::scripts::flags::mask_flags;
 use crate::scripts::part::SETTINGS;
 use crate::scripts::Script;
@@ -66,7 +66,7 @@ const EVENTS: [fn(&mut Walk, &Start); 8] = [
     |walk, start| walk.update(&lesson(start, 1).unconverged()),
     |walk, start| {
         let mut refused = lesson(start, 0);
-        *refused.compensated.last_mut().expect("a channel") = f32::NAN;
+        *refused.averages[COMPENSATED].last_mut().expect("a channel") = f32::NAN;
         walk.update(&refused);
     },
     |walk, start| {

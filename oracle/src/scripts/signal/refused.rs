@@ -3,24 +3,25 @@
 use super::stretches::{Manner, LOUD_MANNER};
 use super::{start, teach, Filter, Walk, WIDE};
 use crate::judge::{BANDS, BLOCK_SAMPLES};
-use crate::kinds::signal::Call;
+use crate::kinds::echo_call;
+use crate::kinds::signal::{Call, COMPENSATED, PLAIN};
 use crate::scripts::faults::{
     at_each_place, put, shorten, singles_and_pairs, with_good_between, Fault, Lends,
 };
 use crate::scripts::random::Random;
 use crate::scripts::Script;
 
-impl Lends for Call {
+impl<const AVERAGES: usize> Lends for echo_call::Call<AVERAGES> {
     fn lists(&mut self) -> Vec<&mut Vec<f32>> {
-        vec![
+        let mut lists = vec![
             &mut self.render,
             &mut self.capture,
             &mut self.residual,
             &mut self.ring,
-            &mut self.average,
-            &mut self.compensated,
-            &mut self.responses,
-        ]
+        ];
+        lists.extend(&mut self.averages);
+        lists.push(&mut self.responses);
+        lists
     }
 }
 
@@ -89,13 +90,16 @@ const LENGTHS: [Fault<Call>; 30] = [
     |call| call.ring.clear(),
     |call| call.slots = call.slots % 32 + 1,
     |call| call.renders = 3_u32.wrapping_sub(call.renders),
-    |call| call.average.push(1.0),
-    |call| shorten(&mut call.average, 1),
-    |call| call.average.clear(),
-    |call| call.compensated.extend([1.0; BANDS]),
-    |call| shorten(&mut call.compensated, BANDS),
-    |call| call.compensated.clear(),
-    |call| move_last(&mut call.average, &mut call.compensated),
+    |call| call.averages[PLAIN].push(1.0),
+    |call| shorten(&mut call.averages[PLAIN], 1),
+    |call| call.averages[PLAIN].clear(),
+    |call| call.averages[COMPENSATED].extend([1.0; BANDS]),
+    |call| shorten(&mut call.averages[COMPENSATED], BANDS),
+    |call| call.averages[COMPENSATED].clear(),
+    |call| {
+        let [plain, compensated] = &mut call.averages;
+        move_last(plain, compensated);
+    },
     |call| call.responses.push(1.0),
     |call| shorten(&mut call.responses, 1),
     |call| call.responses.extend([1.0; BANDS]),
@@ -145,8 +149,8 @@ const VALUES: [Fault<Call>; 10] = [
     |call| put(&mut call.residual, usize::MAX, f32::INFINITY),
     |call| put(&mut call.ring, 0, -1.0),
     |call| put(&mut call.ring, usize::MAX, f32::NAN),
-    |call| put(&mut call.average, BANDS, f32::NEG_INFINITY),
-    |call| put(&mut call.compensated, usize::MAX, -f32::NAN),
+    |call| put(&mut call.averages[PLAIN], BANDS, f32::NEG_INFINITY),
+    |call| put(&mut call.averages[COMPENSATED], usize::MAX, -f32::NAN),
     |call| put(&mut call.responses, 0, f32::from_bits(0x7180_0001)),
     |call| put(&mut call.responses, usize::MAX, -f32::from_bits(1)),
 ];

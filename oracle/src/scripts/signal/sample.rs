@@ -9,7 +9,7 @@ use super::stretches::{Manner, LOUD_MANNER};
 use super::targets::aimed_at_the_target;
 use super::{start, Walk};
 use crate::judge::{BANDS, CAPTURE_CHANNELS, GREATEST_ERLE, GREATEST_VALUE};
-use crate::kinds::signal::{Call, Start};
+use crate::kinds::signal::{Call, Start, COMPENSATED, PLAIN};
 use crate::scripts::faults::singles;
 use crate::scripts::flags::Flags;
 use crate::scripts::part::SETTINGS;
@@ -107,8 +107,8 @@ fn averages(walk: &mut Walk) {
     for block in [0, 3] {
         let mut call = answered(only_block(block)).unconverged();
         for band in 0..BANDS {
-            call.average[band] = values[band % values.len()];
-            call.compensated[band] = values[(band + 5) % values.len()];
+            call.averages[PLAIN][band] = values[band % values.len()];
+            call.averages[COMPENSATED][band] = values[(band + 5) % values.len()];
         }
         walk.update(&call);
     }
@@ -167,7 +167,7 @@ fn limits(walk: &mut Walk) {
     walk.start(&start(SETTINGS[0], true, 5, [9, 6, 0]));
     walk.start(&start(SETTINGS[0], false, 2, [2, 2, 0]));
     let mut two = flat(&[true, false], [LOUD, 4.0, 1.0], 90.0);
-    two.compensated.fill(0.0);
+    two.averages[COMPENSATED].fill(0.0);
     walk.update(&two);
     walk.start(&start(SETTINGS[0], true, 1, [1, 4, 256]));
     for slots in [3, 4] {
@@ -198,16 +198,20 @@ fn faults(walk: &mut Walk) {
 
 fn random_calls(walk: &mut Walk, random: &mut Random, channels: usize) {
     let start = start(SETTINGS[7], channels != 3, channels, [2, 4, 70]);
-    let manner = Manner {
+    walk.start(&start);
+    for _ in 0..2 {
+        let call = any_flags(channels).call(random, &start);
+        walk.update(&call);
+    }
+    walk.reset();
+}
+
+/// Calls of any flags on a ring of as many slots as there are channels.
+pub fn any_flags(channels: usize) -> Manner {
+    Manner {
         slots: channels,
         renders: 1 + channels % 2,
         flags: Flags::Any,
         ..LOUD_MANNER
-    };
-    walk.start(&start);
-    for _ in 0..2 {
-        let call = manner.call(random, &start);
-        walk.update(&call);
     }
-    walk.reset();
 }

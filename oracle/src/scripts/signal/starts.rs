@@ -5,7 +5,7 @@ use super::{start, Filter, Walk, WIDE};
 use crate::judge::{
     BANDS, BLOCK_SAMPLES, CAPTURE_CHANNELS, FILTER_LENGTH_BLOCKS, HEADROOM_SAMPLES,
 };
-use crate::kinds::signal::{Call, Start};
+use crate::kinds::signal::{Call, Start, PLAIN};
 use crate::scripts::part::starts::{every_limits, WRONG_CHANNELS};
 use crate::scripts::part::SETTINGS;
 use crate::scripts::spectra::LOUD;
@@ -103,7 +103,7 @@ pub fn calls_without_a_start(walk: &mut Walk) {
     let good = flat(&[true], [LOUD, 3.0, 1.0], 2.0);
     let mut faulty = good.clone();
     faulty.flags.pop();
-    faulty.average[0] = f32::NAN;
+    faulty.averages[PLAIN][0] = f32::NAN;
     for filter in [[2, 4, 256], [9, 16, 0]] {
         walk.reset();
         walk.update(&good);

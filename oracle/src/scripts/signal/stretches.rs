@@ -41,7 +41,7 @@ pub fn script(seed: u64) -> Script {
     walk.script
 }
 
-fn draw_start(random: &mut Random) -> Start {
+pub fn draw_start(random: &mut Random) -> Start {
     let channels = 1 + random.below(4) as usize;
     let limits = draw_limits(random);
     let onset = random.below(3) != 0;
@@ -115,7 +115,7 @@ pub const LOUD_MANNER: Manner = Manner {
 
 impl Manner {
     /// Small rings are drawn more often than large ones, which take much room.
-    fn draw(random: &mut Random, start: &Start) -> Self {
+    pub fn draw(random: &mut Random, start: &Start) -> Self {
         let least = start.least_ring();
         let most = random.one_of(&[least, 4, 8, 32]).max(least);
         Self {
@@ -150,7 +150,7 @@ impl Manner {
     }
 
     /// Ring and responses, in a call of which nothing else counts.
-    fn echo(&self, random: &mut Random, start: &Start) -> Call {
+    pub fn echo(&self, random: &mut Random, start: &Start) -> Call {
         let channels = start.channels();
         let call = flat(&vec![true; channels], [0.0; 3], 0.0);
         let Some(responses) = self.responses else {
@@ -177,7 +177,8 @@ impl Manner {
         self.powers(random, echo.flags.len(), Some(signal), echo)
     }
 
-    fn powers(
+    /// Flags and powers on this echo; some aim at what stands, if that is said.
+    pub fn powers(
         &self,
         random: &mut Random,
         channels: usize,
@@ -189,18 +190,16 @@ impl Manner {
             render: self.render.draw(random).to_vec(),
             capture: Vec::new(),
             residual: Vec::new(),
-            average: Vec::new(),
-            compensated: Vec::new(),
+            averages: Default::default(),
             ..echo
         };
         for channel in 0..channels {
             let (capture, residual) = self.ratio.draw(random, signal, channel);
             call.capture.extend(capture);
             call.residual.extend(residual);
-            let average = self.average.draw(random, signal, channel);
-            call.average.extend(average);
-            let compensated = self.average.draw(random, signal, channel);
-            call.compensated.extend(compensated);
+            for averages in &mut call.averages {
+                averages.extend(self.average.draw(random, signal, channel));
+            }
         }
         call
     }

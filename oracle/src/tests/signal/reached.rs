@@ -4,30 +4,30 @@ use crate::audio_processing::aec3::signal_dependent_erle_estimator::{peek_channe
 use crate::judge::{BANDS, CAPTURE_CHANNELS};
 use crate::kinds::signal::{Call, Signal};
 use crate::kinds::standing::Estimator;
-use crate::record::{take_record, Body, Fields, Record};
-use crate::scripts::named;
+use crate::record::{Body, Fields, Record};
 use crate::scripts::spectra::beside;
-use std::collections::BTreeMap;
+use crate::tests::counts::{count, each, Counts};
+use crate::tests::each_record;
 
 /// Counts over all scripts: of accepted updates, but for resets and refusals.
 #[derive(Debug, Default)]
 struct Reached {
     records: usize,
-    sections: BTreeMap<u32, usize>,
-    lengths: BTreeMap<u32, usize>,
-    headroom_blocks: BTreeMap<u32, usize>,
-    slots: BTreeMap<u32, usize>,
-    renders: BTreeMap<u32, usize>,
-    channels: BTreeMap<u32, usize>,
-    onsets: BTreeMap<bool, usize>,
-    refusals: BTreeMap<u32, usize>,
-    refused_starts: BTreeMap<u32, usize>,
+    sections: Counts<u32>,
+    lengths: Counts<u32>,
+    headroom_blocks: Counts<u32>,
+    slots: Counts<u32>,
+    renders: Counts<u32>,
+    channels: Counts<u32>,
+    onsets: Counts<bool>,
+    refusals: Counts<u32>,
+    refused_starts: Counts<u32>,
     /// Updates that a subband has counted, as they are counted.
-    counts: BTreeMap<(usize, usize), usize>,
+    counts: Counts<(usize, usize)>,
     /// Resets, by the updates that the first subband has counted.
-    resets: BTreeMap<usize, usize>,
+    resets: Counts<usize>,
     /// Bands, by their active section.
-    active: BTreeMap<usize, usize>,
+    active: Counts<usize>,
     /// Bands of which a section's sum is one step below 0.9 of a total, that, or
     /// one step above.
     about_the_target: [usize; 3],
@@ -39,10 +39,6 @@ struct Reached {
     /// Averages below the minimum, and above both maxima.
     averages_outside: [usize; 2],
     factors_moved: usize,
-}
-
-fn count<K: Ord>(counts: &mut BTreeMap<K, usize>, key: K) {
-    *counts.entry(key).or_default() += 1;
 }
 
 impl Reached {
@@ -62,7 +58,7 @@ impl Reached {
         self.responses_apart += blocks.iter().any(|count| count != &blocks[0]) as usize;
         let settings = &start.settings;
         let greatest = settings.max_l.max(settings.max_h);
-        let averages = || call.average.iter().chain(&call.compensated);
+        let averages = || call.averages.iter().flatten();
         self.averages_outside[0] += averages().filter(|&&a| a < settings.min).count();
         self.averages_outside[1] += averages().filter(|&&a| a > greatest).count();
     }
@@ -129,7 +125,7 @@ impl Reached {
             _ => {
                 if let Some(signal) = standing {
                     count(&mut self.resets, Held::of(signal, 0).updates[0]);
-                    signal.reset();
+                    signal.reset(());
                 }
             }
         }
@@ -154,29 +150,16 @@ impl Reached {
     }
 }
 
-/// Whether each of these was met so many times.
-fn each<K: Ord>(
-    keys: impl IntoIterator<Item = K>,
-    counts: &BTreeMap<K, usize>,
-    least: usize,
-) -> bool {
-    keys.into_iter()
-        .all(|key| counts.get(&key).is_some_and(|&count| count >= least))
-}
-
 #[test]
 fn the_scripts_reach_what_they_are_for() {
     let mut reached = Reached::default();
-    for make in named("signal").unwrap().scripts() {
-        let script = make();
-        assert!(script.bytes.len() < 50_000_000);
-        let mut rest = &script.bytes[..];
-        let mut standing = None;
-        while let Ok(record) = take_record(&mut rest) {
-            reached.step(&mut standing, &record);
+    let mut standing = None;
+    each_record("signal", |first, record| {
+        if first {
+            standing = None;
         }
-        assert!(rest.is_empty());
-    }
+        reached.step(&mut standing, record);
+    });
     let updates = (0..6).flat_map(|subband| [1, 49, 50, 51, 52, 60].map(|n| (subband, n)));
     let all = reached.records >= 100_000
         && each(1..=8, &reached.sections, 400)

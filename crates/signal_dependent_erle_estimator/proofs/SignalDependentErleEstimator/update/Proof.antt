@@ -6,7 +6,7 @@ use lib.Dec.{eqb, ltb}
 use Rattle.aec3_common.specs.Refusal.{accepted}
 use Rattle.aec3_common.proofs.Choices.{and-left, and-right, cond-neither}
 use Rattle.signal_dependent_erle_estimator.specs.SignalDependent.{Update, updateRefusal, updated, afterAccepted, updateAnswer}
-use Rattle.signal_dependent_erle_estimator.proofs.Judged.{settings-passed}
+use Rattle.signal_dependent_erle_estimator.proofs.Judged.{settings-passed, update-passed}
 use Rattle.signal_dependent_erle_estimator.proofs.SignalDependentErleEstimator.update.Statement.{statement}
 use Rattle.signal_dependent_erle_estimator.proofs.SignalDependentErleEstimator.update.Tie as tie
 
@@ -50,7 +50,7 @@ accepted-call c =
     (and-left (eqb n accepted) _ both, and-right (eqb n accepted) _ both)
 
 updated-requires : tie.Need-updated-requires
-updated-requires c κs = (ltb-true 1 _ (accepted-call c .1), eqb-true _ accepted (accepted-call c .0))
+updated-requires c κs = (ltb-true 1 _ (accepted-call c .1), update-passed _ _ (eqb-true _ accepted (accepted-call c .0)))
 
 returns : tie.Need-returns
 unfolding updateAnswer afterAccepted

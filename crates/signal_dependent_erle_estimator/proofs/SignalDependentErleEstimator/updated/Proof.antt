@@ -11,7 +11,8 @@ use Rattle.aec3_common.proofs.Bands.{part-length}
 use Rattle.aec3_common.proofs.Tables.{length-mapped, stored-none, stored-not-yet}
 use Rattle.section_echoes.specs.Steps.{allActive}
 use Rattle.signal_dependent_erle_estimator.specs.SignalDependent.{Update}
-use Rattle.signal_dependent_erle_estimator.proofs.Judged.{Passed, update-passed, few-captures, one-section, eight-sections, headroom-inside}
+use Rattle.signal_dependent_erle_estimator.specs.Steps.{Passed}
+use Rattle.signal_dependent_erle_estimator.proofs.Judged.{few-captures, one-section, eight-sections, headroom-inside}
 use Rattle.signal_dependent_erle_estimator.proofs.Updates.{Updating, active-at, active-within, updating-more, updating-over}
 use Rattle.signal_dependent_erle_estimator.proofs.SignalDependentErleEstimator.updated.Statement.{statement}
 use Rattle.signal_dependent_erle_estimator.proofs.SignalDependentErleEstimator.updated.Tie as tie
@@ -56,7 +57,7 @@ call c =
     }
 
 accepted-call : (c : tie.Start Inv-loop μ-loop) → Passed (c .args .t1) (call c)
-accepted-call c = update-passed (c .args .t1) (call c) (c .pre .1)
+accepted-call c = c .pre .1
 
 few : (c : tie.Start Inv-loop μ-loop) → c .args .num-capture-channels ≤ 4
 few c = omega (arith, accepted-call c .count, few-captures (c .args .t1 .settings) (accepted-call c .state))

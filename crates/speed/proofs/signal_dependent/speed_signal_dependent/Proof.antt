@@ -5,8 +5,8 @@ use borrow.Author.Tests.{not-false}
 use Rattle.speed.proofs.signal_dependent.speed_signal_dependent.Statement.{statement}
 use Rattle.speed.proofs.signal_dependent.speed_signal_dependent.Tie as tie
 
-shared-fits-requires : tie.Need-shared-fits-requires
-shared-fits-requires c κs = c .before .blocks-fit .ensures (not-false _ (c .if1 .left)) .fewChannels
+ring-fits-requires : tie.Need-ring-fits-requires
+ring-fits-requires c κs = c .before .blocks-fit .ensures (not-false _ (c .if1 .left)) .fewChannels
 
 mul-responses-end : tie.Need-mul-responses-end
 mul-responses-end c =
@@ -22,30 +22,24 @@ mul-averages-end c =
 
 ring-end : tie.Need-part-all-rounds-end
 ring-end c =
-    let whole = c .before in
-    let shared = whole .before .shared-fits .ensures (not-false _ (whole .if2 .left)) in
+    let whole = c .before .before in
+    let shared = whole .before .ring-fits .ensures (not-false _ (whole .if2 .left)) in
     omega arith
 
 responses-end : tie.Need-part-all-rounds-end-2
 responses-end c =
-    let whole = c .before .before in
-    let shared = whole .before .shared-fits .ensures (not-false _ (whole .if2 .left)) in
-    omega arith
-
-averages-end : tie.Need-part-all-rounds-end-3
-averages-end c =
     let whole = c .before .before .before in
-    let shared = whole .before .shared-fits .ensures (not-false _ (whole .if2 .left)) in
+    let shared = whole .before .ring-fits .ensures (not-false _ (whole .if2 .left)) in
     omega arith
 
 all-rounds-requires : tie.Need-all-rounds-requires
 all-rounds-requires c κs =
-    let fitted = c .before .before .before .before .before .before in
+    let fitted = c .before .before .before .before .before .before .before in
     fitted .before .blocks-fit .ensures (not-false _ (fitted .if1 .left))
 
 sum-requires : tie.Need-signal-dependent-sum-requires
 sum-requires c κs =
-    let fitted = c .before .before .before .before .before .before .before in
+    let fitted = c .before .before .before .before .before .before .before .before in
     fitted .before .blocks-fit .ensures (not-false _ (fitted .if1 .left)) .fewChannels
 
 pub speed-signal-dependent-spec : {M : Type 1} → statement M
@@ -54,10 +48,11 @@ speed-signal-dependent-spec =
     (tie.spec
     (λ c κs. search needs)
     (λ c. search needs)
-    shared-fits-requires
+    ring-fits-requires
     (λ c. search needs)
     mul-responses-end
     mul-averages-end
+    (λ c. search needs)
     (λ c κs. search needs)
     (λ c. search needs)
     (λ c. search needs)
@@ -67,7 +62,7 @@ speed-signal-dependent-spec =
     responses-end
     (λ c. search needs)
     (λ c. search needs)
-    averages-end
+    (λ c. search needs)
     all-rounds-requires
     sum-requires
     (λ c. search needs))

@@ -1,0 +1,208 @@
+-- The whole ERLE estimator: start, update and reset, its figures, and the calls that are turned away.
+use mathlib.Core.Bool.{Bool, true, false, cond, _&&_}
+use mathlib.Core.List.{List}
+use Prim.Native.Nat.{ℕ, _*_}
+use lib.Dec.{ltb, eqb}
+use lib.Ieee.{Float}
+use lib.ListN.{length}
+use Rattle.aec3_common.specs.declared.settings.ErleSettings.{ErleSettings}
+use Rattle.aec3_common.specs.Binary32.{zero32, valuesOk}
+use Rattle.aec3_common.specs.Calls.{lengthsOk, valuesInRange}
+use Rattle.aec3_common.specs.Counts.{oneMore}
+use Rattle.aec3_common.specs.Refusal.{unless, firstOf, accepted, badLength, badValue, badState, otherChannelCount}
+use Rattle.aec3_common.specs.Settings.{headroomBlocks, settingsRefusal}
+use Rattle.section_echoes.specs.declared.RenderRing.{RenderRing}
+use Rattle.section_echoes.specs.Walk.{slotLength}
+use Rattle.subband_erle_estimator.specs.declared.channel.SubbandChannel.{SubbandChannel}
+use Rattle.subband_erle_estimator.specs.declared.SubbandErleEstimator.{SubbandErleEstimator}
+use Rattle.subband_erle_estimator.specs.Subband.{stateOk as Subband·stateOk, started as Subband·started, updated as Subband·updated}
+use Rattle.signal_dependent_erle_estimator.specs.declared.channel.SignalDependentChannel.{SignalDependentChannel}
+use Rattle.signal_dependent_erle_estimator.specs.SignalDependent.{Update as SignalUpdate, stateOk as SignalDependent·stateOk, ringRefusal, responsesOk, boundariesOf, started as SignalDependent·started, afterAccepted as SignalDependent·afterAccepted}
+use Rattle.fullband_erle_estimator.specs.declared.FullBandFigure.{FullBandFigure}
+use Rattle.fullband_erle_estimator.specs.declared.QualityAnswer.{QualityAnswer}
+use Rattle.fullband_erle_estimator.specs.declared.instantaneous.OptionalNumber.the-variants.{Absent}
+use Rattle.fullband_erle_estimator.specs.FullBand.{stateOk as FullBand·stateOk, started as FullBand·started, updated as FullBand·updated, fullbandLog2, decibels, figureCase, qualityAnswer as FullBand·qualityAnswer}
+use Rattle.erle_estimator.specs.declared.ErleEstimator.{ErleEstimator}
+use Rattle.erle_estimator.specs.declared.ErleAnswer.{ErleAnswer}
+use Rattle.erle_estimator.specs.declared.streams.ErleStreams.{ErleStreams}
+use Rattle.erle_estimator.specs.Parts.{subbandSettings, signalSettings, fullbandSettings, subbandPart, signalPart, fullbandPart, streamsOf}
+
+-- What an update is lent: the call's channel count; the ring and its spectra; the number of response blocks of each channel and the
+-- responses, packed; render, capture and residual power; the flags.
+pub record Update : Type 0 where
+  pub channels : ℕ
+  pub ring : RenderRing
+  pub spectra : List Float
+  pub counts : List ℕ
+  pub responses : List Float
+  pub render : List Float
+  pub capture : List Float
+  pub residual : List Float
+  pub converged : List Bool
+
+-- ---- calls turned away
+
+-- Number 20: each part passes, the signal-dependent one with one section too.
+unfoldable pub stateOk : ErleEstimator → Bool
+stateOk s = Subband·stateOk (subbandPart s) && SignalDependent·stateOk (signalPart s) && FullBand·stateOk (fullbandPart s)
+
+-- a reset and the readers of the whole state are turned away under 20 alone
+unfoldable pub stateRefusal : ErleEstimator → ℕ
+stateRefusal s = unless (stateOk s) badState accepted
+
+-- number 5, of all that is lent
+unfoldable pub lentLengthsOk : ℕ → Update → Bool
+lentLengthsOk filterLength u =
+    lengthsOk (u .channels) (u .converged) (u .render) (u .capture) (u .residual)
+    && eqb (length (u .spectra)) (u .ring .slots * slotLength (u .ring .channels))
+    && responsesOk (u .channels) filterLength (u .counts) (u .responses)
+
+-- number 6, of all that is lent
+unfoldable pub lentValuesOk : Update → Bool
+lentValuesOk u = valuesInRange (u .render) (u .capture) (u .residual) && valuesOk (u .spectra) && valuesOk (u .responses)
+
+-- The first of 20, 21, 2, 4, 9, 5 and 6, or 0.
+unfoldable pub updateRefusal : ErleEstimator → Update → ℕ
+updateRefusal s u =
+    let g = s .settings in
+    unless (stateOk s) badState
+    (unless (eqb (u .channels) (g .«num_capture_channels»)) otherChannelCount
+    (firstOf (ringRefusal (headroomBlocks (g .«delay_headroom_samples»)) (u .ring))
+    (unless (lentLengthsOk (g .«filter_length_blocks») u) badLength
+    (unless (lentValuesOk u) badValue
+    accepted))))
+
+-- ---- start, reset, update
+
+-- every part as a start leaves it, with a block count
+unfoldable pub startedWith : ℕ → ℕ → ErleSettings → ErleEstimator
+startedWith startup blocks g =
+    record {
+      settings = g;
+      «startup_phase_length_blocks» = startup;
+      «blocks_since_reset» = blocks;
+      «section_boundaries_blocks» = boundariesOf (signalSettings g);
+      subband = Subband·started (subbandSettings g) .channels;
+      «signal_dependent» = SignalDependent·started (signalSettings g) .channels;
+      fullband = FullBand·started (fullbandSettings g) .channels;
+    }
+
+-- what a refused start answers with: settings that number 20 turns away
+unfoldable pub refusedSettings : ErleSettings
+refusedSettings =
+    record {
+      min = zero32;
+      «max_l» = zero32;
+      «max_h» = zero32;
+      «onset_detection» = false;
+      «num_capture_channels» = 0;
+      «num_sections» = 0;
+      «filter_length_blocks» = 0;
+      «delay_headroom_samples» = 0;
+      «clamp_quality_estimate_to_zero» = false;
+      «clamp_quality_estimate_to_one» = false;
+    }
+
+-- a start has counted no block
+unfoldable pub startAnswer : ℕ → ErleSettings → ErleAnswer
+startAnswer startup g =
+    let n = settingsRefusal g in
+    record { state = startedWith startup 0 (cond (eqb n accepted) g refusedSettings); refused = n }
+
+-- a reset clears the count only if the delay changed
+unfoldable pub blocksKept : Bool → ℕ → ℕ
+blocksKept delayChange blocks = cond delayChange 0 blocks
+
+-- A reset resets every part.
+unfoldable pub resetAnswer : ErleEstimator → Bool → ErleAnswer
+resetAnswer s delayChange =
+    let n = stateRefusal s in
+    record {
+      state =
+          cond (eqb n accepted)
+          (startedWith (s .«startup_phase_length_blocks») (blocksKept delayChange (s .«blocks_since_reset»)) (s .settings))
+          s;
+      refused = n;
+    }
+
+-- what the signal-dependent part is lent: what the call is lent, and the subband part's streams after this update
+unfoldable pub signalUpdate : Update → SubbandErleEstimator → SignalUpdate
+signalUpdate u subband =
+    record {
+      channels = u .channels;
+      ring = u .ring;
+      spectra = u .spectra;
+      counts = u .counts;
+      responses = u .responses;
+      render = u .render;
+      capture = u .capture;
+      residual = u .residual;
+      average = streamsOf (λ c. c .erle) subband;
+      averageCompensated = streamsOf (λ c. c .«erle_onset_compensated») subband;
+      converged = u .converged;
+    }
+
+-- one block more
+unfoldable pub counted : ErleEstimator → ErleEstimator
+counted s =
+    record {
+      settings = s .settings;
+      «startup_phase_length_blocks» = s .«startup_phase_length_blocks»;
+      «blocks_since_reset» = oneMore (s .«blocks_since_reset»);
+      «section_boundaries_blocks» = s .«section_boundaries_blocks»;
+      subband = s .subband;
+      «signal_dependent» = s .«signal_dependent»;
+      fullband = s .fullband;
+    }
+
+-- Every part is updated: the subband part, with its new streams the signal-dependent part, and the fullband part.
+unfoldable pub updated : ErleEstimator → Update → ErleEstimator
+updated s u =
+    let subband = Subband·updated (subbandPart s) (u .converged) (u .render) (u .capture) (u .residual) in
+    record {
+      settings = s .settings;
+      «startup_phase_length_blocks» = s .«startup_phase_length_blocks»;
+      «blocks_since_reset» = s .«blocks_since_reset»;
+      «section_boundaries_blocks» = s .«section_boundaries_blocks»;
+      subband = subband .channels;
+      «signal_dependent» = SignalDependent·afterAccepted (signalPart s) (signalUpdate u subband) .channels;
+      fullband = FullBand·updated (fullbandPart s) (u .converged) (u .render) (u .capture) (u .residual) .channels;
+    }
+
+-- Each accepted update counts one block; below the startup count nothing else happens.
+unfoldable pub afterAccepted : ErleEstimator → Update → ErleEstimator
+afterAccepted s u =
+    let c = counted s in
+    cond (ltb (c .«blocks_since_reset») (c .«startup_phase_length_blocks»)) c (updated c u)
+
+-- The answer: the next state and 0, or the state as it was and the refusal.
+unfoldable pub updateAnswer : ErleEstimator → Update → ErleAnswer
+updateAnswer s u =
+    let n = updateRefusal s u in
+    record { state = cond (eqb n accepted) (afterAccepted s u) s; refused = n }
+
+-- ---- figures
+
+-- A channel's streams, of its two records: with two or more sections the signal-dependent ones, and the uncapped answer is then the
+-- signal-dependent plain stream. The onset values are the subband part's.
+unfoldable pub streamsShown : ErleSettings → SubbandChannel → SignalDependentChannel → ErleStreams
+streamsShown g subband signal =
+    let many = ltb 1 (g .«num_sections») in
+    record {
+      plain = cond many (signal .erle) (subband .erle);
+      compensated = cond many (signal .«erle_onset_compensated») (subband .«erle_onset_compensated»);
+      unbounded = cond many (signal .erle) (subband .«erle_unbounded»);
+      onsets = subband .«erle_onsets»;
+    }
+
+unfoldable pub log2Answer : ErleEstimator → FullBandFigure
+log2Answer s = figureCase (stateRefusal s) (fullbandLog2 (fullbandPart s))
+
+unfoldable pub decibelAnswer : ErleEstimator → FullBandFigure
+decibelAnswer s = figureCase (stateRefusal s) (decibels (fullbandLog2 (fullbandPart s)))
+
+-- the quality of a channel's linear filter, absent too where the state is turned away
+unfoldable pub qualityAnswer : ErleEstimator → ℕ → QualityAnswer
+qualityAnswer s ch =
+    let n = stateRefusal s in
+    record { quality = cond (eqb n accepted) (FullBand·qualityAnswer (fullbandPart s) ch .quality) Absent; refused = n }

@@ -1,0 +1,3 @@
+pub mod Erle
+pub mod Parts
+pub mod Steps

@@ -1,0 +1,364 @@
+// The whole ERLE estimator: subband, signal-dependent and fullband under one set of settings and one block count.
+mod moves;
+mod parts;
+mod streams;
+
+use aec3_common::counts::one_more;
+use aec3_common::refusal::ACCEPTED;
+use aec3_common::refusal::BAD_STATE;
+pub use aec3_common::settings::ErleSettings;
+pub use aec3_common::streams::erle;
+use fullband_erle_estimator::FullBandChannel;
+use fullband_erle_estimator::FullBandErleEstimator;
+pub use fullband_erle_estimator::FullBandFigure;
+pub use fullband_erle_estimator::OptionalNumber;
+pub use fullband_erle_estimator::QualityAnswer;
+use moves::fullband_updated;
+use moves::signal_updated;
+use moves::subband_updated;
+use parts::fullband_settings;
+use parts::refused_settings;
+use parts::signal_settings;
+use parts::subband_settings;
+pub use section_echoes::RenderRing;
+use signal_dependent_erle_estimator::SignalDependentChannel;
+use signal_dependent_erle_estimator::SignalDependentErleEstimator;
+use signal_dependent_erle_estimator::boundaries_of;
+use signal_dependent_erle_estimator::judge::update_refusal;
+use signal_dependent_erle_estimator::same_first;
+pub use streams::ErleStreams;
+pub use streams::erle_streams;
+use subband_erle_estimator::SubbandChannel;
+use subband_erle_estimator::SubbandErleEstimator;
+ghost use mathlib.Core.Path.{_≡_};
+ghost use mathlib.Core.Bool.{true, _&&_};
+ghost use Prim.Native.Nat.{_≤_};
+ghost use lib.Ieee.{binary32, add, lt};
+ghost use lib.ListN.{take};
+ghost use Rattle.aec3_common.specs.Binary32.{zero32};
+ghost use Rattle.aec3_common.specs.Lists.{every};
+ghost use Rattle.aec3_common.specs.Refusal.{accepted};
+ghost use Rattle.subband_erle_estimator.specs.Subband.{channelOk as Subband·channelOk};
+ghost use Rattle.signal_dependent_erle_estimator.specs.SignalDependent.{channelOk as SignalDependent·channelOk};
+ghost use Rattle.fullband_erle_estimator.specs.Instantaneous.{epsilon};
+ghost use Rattle.fullband_erle_estimator.specs.FullBand.{channelOk as FullBand·channelOk};
+ghost use Rattle.erle_estimator.specs.Parts.{fullbandPart};
+ghost use Rattle.erle_estimator.specs.Erle.{Update, stateOk, updateRefusal, startedWith, startAnswer, blocksKept, resetAnswer, updated as Erle·updated, afterAccepted as Erle·afterAccepted, updateAnswer, log2Answer, decibelAnswer, qualityAnswer};
+
+// The settings once, and four records of each part.
+pub struct ErleEstimator {
+    pub settings: ErleSettings,
+    pub startup_phase_length_blocks: u32,
+    pub blocks_since_reset: u32,
+    pub section_boundaries_blocks: [usize; 9],
+    pub subband: [SubbandChannel; 4],
+    pub signal_dependent: [SignalDependentChannel; 4],
+    pub fullband: [FullBandChannel; 4],
+}
+
+// The next state and 0, or the state as it was and the number under which the call is turned away.
+pub struct ErleAnswer {
+    pub state: ErleEstimator,
+    pub refused: u32,
+}
+
+// Every part as a start leaves it, with a block count.
+fn started_with(startup: u32, blocks: u32, settings: ErleSettings) -> ErleEstimator
+    requires { ⌜ lt zero32 (add binary32 (settings .min) epsilon) ≡ true ⌝ }
+    ensures { λ r. ⌜ r ≡ startedWith startup blocks settings ⌝ }
+{
+    let subband_channel = SubbandChannel::new(settings.min);
+    let subband = [subband_channel; 4];
+    let signal_channel = SignalDependentChannel::new(settings.min);
+    let signal_dependent = [signal_channel; 4];
+    let log2 = fullband_settings(settings);
+    let fullband_channel = FullBandChannel::new(log2.min_erle_log2());
+    let fullband = [fullband_channel; 4];
+    let section_boundaries_blocks = boundaries_of(signal_settings(settings));
+    ErleEstimator {
+        settings,
+        startup_phase_length_blocks: startup,
+        blocks_since_reset: blocks,
+        section_boundaries_blocks,
+        subband,
+        signal_dependent,
+        fullband,
+    }
+}
+
+// The blocks that stand counted after a reset.
+fn blocks_kept(blocks: u32, delay_change: bool) -> u32
+    ensures { λ r. ⌜ r ≡ blocksKept «delay_change» blocks ⌝ }
+{
+    if delay_change { 0 } else { blocks }
+}
+
+impl ErleEstimator {
+    // A start. 1, 2 and 3 are turned away, with a state that every later call turns away.
+    pub fn new(startup_phase_length_blocks: u32, settings: ErleSettings) -> ErleAnswer
+        ensures { λ r. ⌜ r ≡ startAnswer «startup_phase_length_blocks» settings ⌝ }
+    {
+        let refused = settings.refusal();
+        if refused == ACCEPTED {
+            let state = started_with(startup_phase_length_blocks, 0, settings);
+            ErleAnswer { state, refused }
+        } else {
+            let state = started_with(startup_phase_length_blocks, 0, refused_settings());
+            ErleAnswer { state, refused }
+        }
+    }
+
+    // Whether each of the state's channels passes number 20, in each part.
+    fn channels_ok(self) -> bool
+        requires { ⌜ (self .settings .«num_capture_channels» ≤ 4) × (self .settings .«num_sections» ≤ 8) ⌝ }
+        ensures { λ r. ⌜ r ≡ every Subband·channelOk (take (self .settings .«num_capture_channels») (self .subband)) && every (SignalDependent·channelOk (self .settings .«num_sections»)) (take (self .settings .«num_capture_channels») (self .«signal_dependent»)) && every FullBand·channelOk (take (self .settings .«num_capture_channels») (self .fullband)) ⌝ }
+    {
+        let count = self.settings.num_capture_channels;
+        let sections = self.settings.num_sections as u32;
+        let mut subband_ok = true;
+        let mut signal_ok = true;
+        let mut fullband_ok = true;
+        for ch in 0..count {
+            let subband = self.subband[ch];
+            let signal = self.signal_dependent[ch];
+            let fullband = self.fullband[ch];
+            subband_ok = subband_ok & subband.ok();
+            signal_ok = signal_ok & signal.ok(sections);
+            fullband_ok = fullband_ok & fullband.ok();
+        }
+        subband_ok & signal_ok & fullband_ok
+    }
+
+    // Whether number 20 lets the state pass.
+    fn ok(self) -> bool
+        ensures { λ r. ⌜ r ≡ stateOk self ⌝ }
+    {
+        let settings = self.settings;
+        if settings.refusal() == ACCEPTED {
+            let held = self.section_boundaries_blocks;
+            let given = boundaries_of(signal_settings(settings));
+            same_first(settings.num_sections + 1, &held, &given) & self.channels_ok()
+        } else {
+            false
+        }
+    }
+
+    // Every part as after a start; the count is cleared only if the delay changed. 20 is turned away.
+    pub fn reset(self, delay_change: bool) -> ErleAnswer
+        ensures { λ r. ⌜ r ≡ resetAnswer self «delay_change» ⌝ }
+    {
+        if self.ok() {
+            let blocks = blocks_kept(self.blocks_since_reset, delay_change);
+            ErleAnswer {
+                state: started_with(self.startup_phase_length_blocks, blocks, self.settings),
+                refused: ACCEPTED,
+            }
+        } else {
+            ErleAnswer {
+                state: self,
+                refused: BAD_STATE,
+            }
+        }
+    }
+
+    // Every part, one after the other, none of which judges again.
+    fn updated(
+        self,
+        num_capture_channels: usize,
+        ring: RenderRing,
+        spectra: &[f32],
+        response_blocks: &[usize],
+        responses: &[f32],
+        x2: &[f32],
+        y2: &[f32],
+        e2: &[f32],
+        converged_filters: &[bool],
+    ) -> ErleEstimator
+        requires { ⌜ updateRefusal self (record { channels = «num_capture_channels»; ring = ring; spectra = now (spectra); counts = now («response_blocks»); responses = now (responses); render = now (x2); capture = now (y2); residual = now (e2); converged = now («converged_filters») }) ≡ accepted ⌝ }
+        ensures { λ r. ⌜ r ≡ Erle·updated self (record { channels = «num_capture_channels»; ring = ring; spectra = now (spectra .entry); counts = now («response_blocks» .entry); responses = now (responses .entry); render = now (x2 .entry); capture = now (y2 .entry); residual = now (e2 .entry); converged = now («converged_filters» .entry) }) ⌝ }
+    {
+        let settings = self.settings;
+        let section_boundaries_blocks = self.section_boundaries_blocks;
+        let channels = self.subband;
+        let part = SubbandErleEstimator {
+            settings: subband_settings(settings),
+            channels,
+        };
+        let subband = subband_updated(part, converged_filters, x2, y2, e2);
+        let channels = self.signal_dependent;
+        let part = SignalDependentErleEstimator {
+            settings: signal_settings(settings),
+            section_boundaries_blocks,
+            channels,
+        };
+        let signal = signal_updated(
+            part,
+            subband,
+            num_capture_channels,
+            ring,
+            spectra,
+            response_blocks,
+            responses,
+            x2,
+            y2,
+            e2,
+            converged_filters,
+        );
+        let channels = self.fullband;
+        let part = FullBandErleEstimator {
+            settings: fullband_settings(settings),
+            channels,
+        };
+        let fullband = fullband_updated(part, converged_filters, x2, y2, e2);
+        let subband = subband.channels;
+        let signal_dependent = signal.channels;
+        let fullband = fullband.channels;
+        ErleEstimator {
+            settings,
+            startup_phase_length_blocks: self.startup_phase_length_blocks,
+            blocks_since_reset: self.blocks_since_reset,
+            section_boundaries_blocks,
+            subband,
+            signal_dependent,
+            fullband,
+        }
+    }
+
+    // An accepted block is counted; below the startup count nothing else happens.
+    fn after_accepted(
+        mut self,
+        num_capture_channels: usize,
+        ring: RenderRing,
+        spectra: &[f32],
+        response_blocks: &[usize],
+        responses: &[f32],
+        x2: &[f32],
+        y2: &[f32],
+        e2: &[f32],
+        converged_filters: &[bool],
+    ) -> ErleEstimator
+        requires { ⌜ updateRefusal self (record { channels = «num_capture_channels»; ring = ring; spectra = now (spectra); counts = now («response_blocks»); responses = now (responses); render = now (x2); capture = now (y2); residual = now (e2); converged = now («converged_filters») }) ≡ accepted ⌝ }
+        ensures { λ r. ⌜ r ≡ Erle·afterAccepted self (record { channels = «num_capture_channels»; ring = ring; spectra = now (spectra .entry); counts = now («response_blocks» .entry); responses = now (responses .entry); render = now (x2 .entry); capture = now (y2 .entry); residual = now (e2 .entry); converged = now («converged_filters» .entry) }) ⌝ }
+    {
+        let blocks = one_more(self.blocks_since_reset);
+        self.blocks_since_reset = blocks;
+        if blocks < self.startup_phase_length_blocks {
+            self
+        } else {
+            self.updated(
+                num_capture_channels,
+                ring,
+                spectra,
+                response_blocks,
+                responses,
+                x2,
+                y2,
+                e2,
+                converged_filters,
+            )
+        }
+    }
+
+    // One block: the ring and its spectra, the number of response blocks of each channel and the responses, render, captures and
+    // residuals, and the flags. 20, 21, 2, 4, 9, 5 and 6 are turned away, in startup too; a block that is turned away is not counted.
+    pub fn update(
+        self,
+        num_capture_channels: usize,
+        ring: RenderRing,
+        spectra: &[f32],
+        response_blocks: &[usize],
+        responses: &[f32],
+        x2: &[f32],
+        y2: &[f32],
+        e2: &[f32],
+        converged_filters: &[bool],
+    ) -> ErleAnswer
+        ensures { λ r. ⌜ r ≡ updateAnswer self (record { channels = «num_capture_channels»; ring = ring; spectra = now (spectra .entry); counts = now («response_blocks» .entry); responses = now (responses .entry); render = now (x2 .entry); capture = now (y2 .entry); residual = now (e2 .entry); converged = now («converged_filters» .entry) }) ⌝ }
+    {
+        // Captures and residuals stand where the signal-dependent estimator alone is lent two streams: they have the same lengths and range.
+        let refused = update_refusal(
+            self.ok(),
+            signal_settings(self.settings),
+            num_capture_channels,
+            ring,
+            spectra,
+            response_blocks,
+            responses,
+            x2,
+            y2,
+            e2,
+            y2,
+            e2,
+            converged_filters,
+        );
+        if refused == ACCEPTED {
+            let state = self.after_accepted(
+                num_capture_channels,
+                ring,
+                spectra,
+                response_blocks,
+                responses,
+                x2,
+                y2,
+                e2,
+                converged_filters,
+            );
+            ErleAnswer { state, refused }
+        } else {
+            ErleAnswer {
+                state: self,
+                refused,
+            }
+        }
+    }
+
+    // The fullband part, for its readers.
+    fn fullband_part(self) -> FullBandErleEstimator
+        ensures { λ r. ⌜ r ≡ fullbandPart self ⌝ }
+    {
+        let channels = self.fullband;
+        FullBandErleEstimator {
+            settings: fullband_settings(self.settings),
+            channels,
+        }
+    }
+
+    // The fullband log2 figure. 20 is turned away.
+    pub fn fullband_erle_log2(self) -> FullBandFigure
+        ensures { λ r. ⌜ r ≡ log2Answer self ⌝ }
+    {
+        if self.ok() {
+            let part = self.fullband_part();
+            part.fullband_erle_log2()
+        } else {
+            FullBandFigure::Refused(BAD_STATE)
+        }
+    }
+
+    // The same in decibels.
+    pub fn fullband_erle_db(self) -> FullBandFigure
+        ensures { λ r. ⌜ r ≡ decibelAnswer self ⌝ }
+    {
+        if self.ok() {
+            let part = self.fullband_part();
+            part.fullband_erle_db()
+        } else {
+            FullBandFigure::Refused(BAD_STATE)
+        }
+    }
+
+    // The quality of a channel's linear filter. 20 is turned away.
+    pub fn linear_quality_estimate(self, ch: usize) -> QualityAnswer
+        ensures { λ r. ⌜ r ≡ qualityAnswer self ch ⌝ }
+    {
+        if self.ok() {
+            let part = self.fullband_part();
+            part.linear_quality_estimate(ch)
+        } else {
+            QualityAnswer {
+                quality: OptionalNumber::Absent,
+                refused: BAD_STATE,
+            }
+        }
+    }
+}
