@@ -2,7 +2,7 @@
 
 use crate::lines::{fields, Lines};
 use crate::program::Program;
-use crate::run::{run, Run};
+use crate::run::Run;
 use crate::scripts::{Name, NAMES};
 use std::io::{self, Write};
 use std::process::{Command, Output, Stdio};
@@ -34,7 +34,7 @@ fn compare_all(name: &Name, file: &str) -> Result<String, String> {
     let count = scripts.len();
     let mut records = 0;
     for (at, make) in scripts.into_iter().enumerate() {
-        let compared = compare_one(name.program, &make().bytes, file);
+        let compared = compare_one(name, &make().bytes, file);
         records += compared.map_err(|difference| {
             if count == 1 {
                 difference
@@ -55,11 +55,13 @@ fn compare_all(name: &Name, file: &str) -> Result<String, String> {
 
 /// Gives the number of records, or the first difference. A program that ends
 /// with another status than 0 is not the same, whatever it printed.
-fn compare_one(program: Program, script: &[u8], file: &str) -> Result<usize, String> {
-    let (lines, records) = run(program, script);
-    let replayed =
-        replay_script(file, script).map_err(|error| format!("{file} does not run: {error}"))?;
-    let record = |line| record_of_line(program, script, line);
+fn compare_one(name: &Name, script: &[u8], file: &str) -> Result<usize, String> {
+    let run = || Run::showing(name.program, name.state, script);
+    let (lines, records) = run().finish();
+    let words: &[&str] = if name.state { &["state"] } else { &[] };
+    let replayed = replay_script(file, words, script)
+        .map_err(|error| format!("{file} does not run: {error}"))?;
+    let record = |line| record_of_line(run(), line);
     if let Some(difference) = first_difference(lines.as_bytes(), &replayed.stdout, record) {
         Err(difference)
     } else if !replayed.status.success() {
@@ -69,11 +71,12 @@ fn compare_one(program: Program, script: &[u8], file: &str) -> Result<usize, Str
     }
 }
 
-/// Runs a replay program on a script. Its input is written from a thread of
+/// Runs a replay program, with some words, on a script. Its input is written from a thread of
 /// its own, as it may print before it has read everything, or end without
 /// reading the rest; a failed write therefore counts for nothing.
-fn replay_script(file: &str, script: &[u8]) -> io::Result<Output> {
+fn replay_script(file: &str, words: &[&str], script: &[u8]) -> io::Result<Output> {
     let mut child = Command::new(file)
+        .args(words)
         .stdin(Stdio::piped())
         .stdout(Stdio::piped())
         .spawn()?;
@@ -143,9 +146,8 @@ fn shown_line(line: Option<&[u8]>) -> String {
 }
 
 /// The record that gives a line, found by running the script again.
-fn record_of_line(program: Program, script: &[u8], line: usize) -> String {
+fn record_of_line(mut run: Run<'_>, line: usize) -> String {
     let mut lines = Lines::default();
-    let mut run = Run::new(program, script);
     let mut records = 0;
     while let Some(bytes) = run.step(&mut lines) {
         records += 1;

@@ -32,6 +32,8 @@ pub type Maker = Box<dyn FnOnce() -> Script>;
 pub struct Name {
     pub name: &'static str,
     pub program: Program,
+    /// Whether the program is asked to show what the whole ERLE estimator holds.
+    pub state: bool,
     make: fn() -> Vec<Maker>,
 }
 
@@ -40,7 +42,16 @@ impl Name {
         Self {
             name,
             program,
+            state: false,
             make,
+        }
+    }
+
+    /// The same name, for a program that is asked to show inner state.
+    const fn with_state(self) -> Self {
+        Self {
+            state: true,
+            ..self
         }
     }
 
@@ -59,7 +70,7 @@ pub const NAMES: [Name; 13] = [
     }),
     Name::new("erl", Program::Replay, erl::scripts),
     Name::new("damaged", Program::Replay, || made(damaged::scripts())),
-    Name::new("erle", Program::Replay, erle::scripts),
+    Name::new("erle", Program::Replay, erle::scripts).with_state(),
     Name::new("damaged_erle", Program::Replay, || {
         made(erle::damaged_scripts())
     }),
