@@ -30,7 +30,7 @@ lengthsOk channels converged render capture residual =
     && eqb (length capture) (channels * 65)
     && eqb (length residual) (channels * 65)
 
--- number 6, of all that is lent
+-- number 6, of render, capture and residual power
 abbrev pub valuesInRange : List Float → List Float → List Float → Bool
 valuesInRange render capture residual = valuesOk render && valuesOk capture && valuesOk residual
 

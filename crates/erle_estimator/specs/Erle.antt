@@ -28,7 +28,8 @@ use Rattle.erle_estimator.specs.declared.streams.ErleStreams.{ErleStream
 use Rattle.erle_estimator.specs.Parts.{subbandSettings, signalSettings, fullbandSettings, subbandPart, signalPart, fullbandPart, streamsOf}
 
 -- What an update is lent: the call's channel count; the ring and its spectra; the number of response blocks of each channel and the
--- responses, packed; render, capture and residual power; the flags.
+-- responses, packed; the render power that the parts look at, 65 numbers for all channels, apart from the ring's; capture and residual
+-- power, 65 numbers for each channel, packed; the flags.
 pub record Update : Type 0 where
   pub channels : ℕ
   pub ring : RenderRing
@@ -61,7 +62,8 @@ lentLengthsOk filterLength u =
 unfoldable pub lentValuesOk : Update → Bool
 lentValuesOk u = valuesInRange (u .render) (u .capture) (u .residual) && valuesOk (u .spectra) && valuesOk (u .responses)
 
--- The first of 20, 21, 2, 4, 9, 5 and 6, or 0.
+-- The first of 20, 21, 2, 4, 9, 5 and 6, or 0. 2 is of the ring's render channels, since 21 has judged the capture channels; 1 and 3
+-- are in 20; 8 does not arise, as 4 judges the only offset.
 unfoldable pub updateRefusal : ErleEstimator → Update → ℕ
 updateRefusal s u =
     let g = s .settings in
@@ -113,7 +115,7 @@ startAnswer startup g =
 unfoldable pub blocksKept : Bool → ℕ → ℕ
 blocksKept delayChange blocks = cond delayChange 0 blocks
 
--- A reset resets every part.
+-- A reset leaves every part as a start with the state's settings does, in all four records; the startup count stays.
 unfoldable pub resetAnswer : ErleEstimator → Bool → ErleAnswer
 resetAnswer s delayChange =
     let n = stateRefusal s in
@@ -125,7 +127,8 @@ resetAnswer s delayChange =
       refused = n;
     }
 
--- what the signal-dependent part is lent: what the call is lent, and the subband part's streams after this update
+-- What the signal-dependent part is lent: what the call is lent, and the subband part's streams after this update. (With onset
+-- detection off the Rust lends the plain one twice; the part then reads no compensated one.)
 unfoldable pub signalUpdate : Update → SubbandErleEstimator → SignalUpdate
 signalUpdate u subband =
     record {
@@ -155,7 +158,8 @@ counted s =
       fullband = s .fullband;
     }
 
--- Every part is updated: the subband part, with its new streams the signal-dependent part, and the fullband part.
+-- The three parts in the Rust's order: the subband part, with its new streams the signal-dependent part, which stays as it is with one
+-- section, and the fullband part. The count is not touched here.
 unfoldable pub updated : ErleEstimator → Update → ErleEstimator
 updated s u =
     let subband = Subband·updated (subbandPart s) (u .converged) (u .render) (u .capture) (u .residual) in
@@ -169,7 +173,7 @@ updated s u =
       fullband = FullBand·updated (fullbandPart s) (u .converged) (u .render) (u .capture) (u .residual) .channels;
     }
 
--- Each accepted update counts one block; below the startup count nothing else happens.
+-- Each accepted update counts one block first; if the count is then below the startup count, nothing else happens.
 unfoldable pub afterAccepted : ErleEstimator → Update → ErleEstimator
 afterAccepted s u =
     let c = counted s in
@@ -184,7 +188,8 @@ updateAnswer s u =
 -- ---- figures
 
 -- A channel's streams, of its two records: with two or more sections the signal-dependent ones, and the uncapped answer is then the
--- signal-dependent plain stream. The onset values are the subband part's.
+-- signal-dependent plain stream. The onset values are the subband part's. `compensated` is the stream as it is held: with onset detection
+-- off nothing moves it, and `erle` answers the plain one.
 unfoldable pub streamsShown : ErleSettings → SubbandChannel → SignalDependentChannel → ErleStreams
 streamsShown g subband signal =
     let many = ltb 1 (g .«num_sections») in
@@ -201,7 +206,7 @@ log2Answer s = figureCase (stateRefusal s) (fullbandLog2 (fullbandPart s))
 unfoldable pub decibelAnswer : ErleEstimator → FullBandFigure
 decibelAnswer s = figureCase (stateRefusal s) (decibels (fullbandLog2 (fullbandPart s)))
 
--- the quality of a channel's linear filter, absent too where the state is turned away
+-- the quality of a channel's linear filter, absent too where the state is turned away or has no such channel
 unfoldable pub qualityAnswer : ErleEstimator → ℕ → QualityAnswer
 qualityAnswer s ch =
     let n = stateRefusal s in

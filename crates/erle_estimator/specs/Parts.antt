@@ -53,7 +53,7 @@ fullbandSettings g =
 
 -- ---- states
 
--- a part's records under the settings that stand once
+-- a part's own state: its records, and its share of the one set of settings
 abbrev pub subbandPart : ErleEstimator → SubbandErleEstimator
 subbandPart s = record { settings = subbandSettings (s .settings); channels = s .subband }
 

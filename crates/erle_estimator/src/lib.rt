@@ -45,7 +45,8 @@ ghost use Rattle.fullband_erle_estimator.specs.FullBand.{channelOk as FullBand�
 ghost use Rattle.erle_estimator.specs.Parts.{fullbandPart};
 ghost use Rattle.erle_estimator.specs.Erle.{Update, stateOk, updateRefusal, startedWith, startAnswer, blocksKept, resetAnswer, updated as Erle·updated, afterAccepted as Erle·afterAccepted, updateAnswer, log2Answer, decibelAnswer, qualityAnswer};
 
-// The settings once, and four records of each part.
+// The settings once, the startup count, the blocks counted since the latest reset that came with a change of delay, and four records of
+// each part.
 pub struct ErleEstimator {
     pub settings: ErleSettings,
     pub startup_phase_length_blocks: u32,
@@ -71,8 +72,8 @@ fn started_with(startup: u32, blocks: u32, settings: ErleSettings) -> ErleEstima
     let subband = [subband_channel; 4];
     let signal_channel = SignalDependentChannel::new(settings.min);
     let signal_dependent = [signal_channel; 4];
-    let log2 = fullband_settings(settings);
-    let fullband_channel = FullBandChannel::new(log2.min_erle_log2());
+    let part = fullband_settings(settings);
+    let fullband_channel = FullBandChannel::new(part.min_erle_log2());
     let fullband = [fullband_channel; 4];
     let section_boundaries_blocks = boundaries_of(signal_settings(settings));
     ErleEstimator {
@@ -94,7 +95,7 @@ fn blocks_kept(blocks: u32, delay_change: bool) -> u32
 }
 
 impl ErleEstimator {
-    // A start. 1, 2 and 3 are turned away, with a state that every later call turns away.
+    // A start. 1, 2 and 3 are turned away, with a state that update, reset and the fullband readers turn away.
     pub fn new(startup_phase_length_blocks: u32, settings: ErleSettings) -> ErleAnswer
         ensures { λ r. ⌜ r ≡ startAnswer «startup_phase_length_blocks» settings ⌝ }
     {
@@ -275,7 +276,8 @@ impl ErleEstimator {
     ) -> ErleAnswer
         ensures { λ r. ⌜ r ≡ updateAnswer self (record { channels = «num_capture_channels»; ring = ring; spectra = now (spectra .entry); counts = now («response_blocks» .entry); responses = now (responses .entry); render = now (x2 .entry); capture = now (y2 .entry); residual = now (e2 .entry); converged = now («converged_filters» .entry) }) ⌝ }
     {
-        // Captures and residuals stand where the signal-dependent estimator alone is lent two streams: they have the same lengths and range.
+        // This chain also judges the two streams that the signal-dependent estimator is lent. Here none are lent, so that captures and
+        // residuals are handed in twice; judging them twice changes nothing.
         let refused = update_refusal(
             self.ok(),
             signal_settings(self.settings),

@@ -17,7 +17,7 @@ ghost use Rattle.erle_estimator.specs.Steps.{UpdateFits, streamAsked, st
 ghost use Rattle.signal_dependent_erle_estimator.specs.SignalDependent.{Update, afterAccepted as SignalDependent·afterAccepted};
 ghost use Rattle.signal_dependent_erle_estimator.specs.Steps.{Passed};
 
-// A converged channel learns, another one decays.
+// A converged channel learns and decays, another one only decays.
 pub fn subband_updated(
     mut subband: SubbandErleEstimator,
     converged_filters: &[bool],

@@ -5,7 +5,8 @@ use subband_erle_estimator::SubbandChannel;
 ghost use mathlib.Core.Path.{_≡_};
 ghost use Rattle.erle_estimator.specs.Erle.{streamsShown};
 
-// A channel's figures: the plain, the onset-compensated and the uncapped ERLE of each band, and the onset values.
+// A channel's figures: the plain, the onset-compensated and the uncapped ERLE of each band, and the onset values. The compensated stream
+// is as it is held, see `erle`; with two or more sections the uncapped one is the plain one.
 pub struct ErleStreams {
     pub plain: [f32; 65],
     pub compensated: [f32; 65],
