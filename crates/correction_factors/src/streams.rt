@@ -42,7 +42,7 @@ fn put_factors(
     }
 }
 
-// The factor of each band. The subbands are taken one after the other, since asking each band for its subband takes longer.
+// The factor of each band. The subbands are taken one after the other, so that no band's subband has to be sought.
 pub fn band_factors(factors: &[f32; 48], active: &[u32; 65]) -> [f32; 65]
     requires { ⌜ ((k : ℕ) → getD (now active) k 0 < 8) ⌝ }
     ensures { λ r. ⌜ r ≡ factorsOf (now (factors .entry)) (now (active .entry)) ⌝ }

@@ -21,7 +21,7 @@ pub struct SignalDependentChannel {
     pub n_active_sections: [u32; 65],
 }
 
-// Whether every section is below a count. No branch leaves the loop early, so that it compiles to vector code.
+// Whether every section is below a count. No branch leaves the loop early, as in the check of values.
 fn all_below(active: &[u32; 65], sections: u32) -> bool
     requires { ⌜ length (now active) ≡ 65 ⌝ }
     ensures { λ r. ⌜ r ≡ every (λ n. ltb n sections) (now (active .entry)) ⌝ }
