@@ -11,6 +11,7 @@ use Rattle.aec3_common.specs.Calls.{lengthsOk, valuesInRange}
 use Rattle.aec3_common.specs.Counts.{oneMore}
 use Rattle.aec3_common.specs.Refusal.{unless, firstOf, accepted, badLength, badValue, badState, otherChannelCount}
 use Rattle.aec3_common.specs.Settings.{headroomBlocks, settingsRefusal}
+use Rattle.aec3_common.specs.Streams.{erleOf}
 use Rattle.section_echoes.specs.declared.RenderRing.{RenderRing}
 use Rattle.section_echoes.specs.Walk.{slotLength}
 use Rattle.subband_erle_estimator.specs.declared.channel.SubbandChannel.{SubbandChannel}
@@ -187,16 +188,26 @@ updateAnswer s u =
 
 -- ---- figures
 
--- A channel's streams, of its two records: with two or more sections the signal-dependent ones, and the uncapped answer is then the
--- signal-dependent plain stream. The onset values are the subband part's. `compensated` is the stream as it is held: with onset detection
--- off nothing moves it, and `erle` answers the plain one.
+-- Whether the signal-dependent part is in use.
+unfoldable pub sectioned : ErleSettings → Bool
+sectioned g = ltb 1 (g .«num_sections»)
+
+-- What `erle` answers for a channel, of its two records: with two or more sections a signal-dependent stream, else a subband one; the
+-- compensated one where it is asked for and onset detection is on, else the plain one.
+unfoldable pub erleShown : ErleSettings → SubbandChannel → SignalDependentChannel → Bool → List Float
+erleShown g subband signal onsetCompensated =
+    cond (sectioned g)
+    (erleOf (signal .erle) (signal .«erle_onset_compensated») onsetCompensated (g .«onset_detection»))
+    (erleOf (subband .erle) (subband .«erle_onset_compensated») onsetCompensated (g .«onset_detection»))
+
+-- A channel's streams: what `erle` answers, not asked and asked for the compensated one; the uncapped answer, which with two or more
+-- sections is the signal-dependent plain stream; the onset values, always the subband part's.
 unfoldable pub streamsShown : ErleSettings → SubbandChannel → SignalDependentChannel → ErleStreams
 streamsShown g subband signal =
-    let many = ltb 1 (g .«num_sections») in
     record {
-      plain = cond many (signal .erle) (subband .erle);
-      compensated = cond many (signal .«erle_onset_compensated») (subband .«erle_onset_compensated»);
-      unbounded = cond many (signal .erle) (subband .«erle_unbounded»);
+      plain = erleShown g subband signal false;
+      compensated = erleShown g subband signal true;
+      unbounded = cond (sectioned g) (signal .erle) (subband .«erle_unbounded»);
       onsets = subband .«erle_onsets»;
     }
 

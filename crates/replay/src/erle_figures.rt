@@ -3,7 +3,6 @@
 // for each channel and 17 besides, a record with four channels gives at most 25,532 bytes, so that its text fits the 32,768
 // bytes that script::flushed leaves free.
 use crate::erle_state::put_state;
-use channel_lines::put_compensated_line;
 use channel_lines::put_quality;
 use channel_lines::put_reading;
 use encoding::put_bytes;
@@ -15,19 +14,13 @@ use script::put_array_line;
 use signal_dependent_erle_estimator::SignalDependentChannel;
 use subband_erle_estimator::SubbandChannel;
 
-fn put_streams(
-    out: &mut [u8],
-    at: usize,
-    c: usize,
-    streams: ErleStreams,
-    onset_detection: bool,
-) -> usize {
+fn put_streams(out: &mut [u8], at: usize, c: usize, streams: ErleStreams) -> usize {
     let plain = streams.plain;
     let compensated = streams.compensated;
     let unbounded = streams.unbounded;
     let onsets = streams.onsets;
     let at = put_array_line(out, at, b"plain", c, plain);
-    let at = put_compensated_line(out, at, b"comp", c, plain, compensated, onset_detection);
+    let at = put_array_line(out, at, b"comp", c, compensated);
     let at = put_array_line(out, at, b"unb", c, unbounded);
     put_array_line(out, at, b"onsets", c, onsets)
 }
@@ -45,7 +38,7 @@ fn put_channel(
         return at;
     }
     let streams = erle_streams(settings, subband, signal_dependent);
-    put_streams(out, at, c, streams, settings.onset_detection)
+    put_streams(out, at, c, streams)
 }
 
 // The lines of each channel of the state.
