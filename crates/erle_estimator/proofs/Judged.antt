@@ -1,33 +1,32 @@
 -- What the judging of settings, of a state and of an update tells of the parts.
-use mathlib.Core.Path.{_≡_, refl, sym, _∙_}
-use mathlib.Core.Bool.{Bool, true, false, _&&_}
+use mathlib.Core.Path.{_≡_, refl, sym, ap, _∙_}
+use mathlib.Core.Bool.{Bool, true, false, cond, _&&_, true≢false}
 use mathlib.Core.List.{List}
-use Prim.Native.Nat.{ℕ, suc, _*_, _≤_}
+use Prim.Native.Nat.{ℕ, suc, _+_, _*_, _≤_, _<_}
 use native.Mathlib.Omega.{arith}
 use borrow.Author.Tests.{eq-eqb, ne-eqb, eqb-true}
 use lib.Dec.{eqb}
 use lib.Ieee.{Float}
-use lib.ListN.{length, take}
+use lib.ListN.{length, getD, take}
 use Rattle.aec3_common.specs.declared.settings.ErleSettings.{ErleSettings}
 use Rattle.aec3_common.specs.Binary32.{valuesOk}
 use Rattle.aec3_common.specs.Calls.{lengthsOk, valuesInRange}
 use Rattle.aec3_common.specs.Lists.{every}
 use Rattle.aec3_common.specs.Refusal.{unless, firstOf, accepted}
 use Rattle.aec3_common.specs.Settings.{headroomBlocks, settingsRefusal}
-use Rattle.aec3_common.proofs.Calls.{first-passed}
-use Rattle.aec3_common.proofs.Tables.{length-tab}
+use Rattle.aec3_common.proofs.Calls.{UpdateOk, first-passed}
+use Rattle.aec3_common.proofs.Every.{Tested, tested-none, tested-more}
 use Rattle.aec3_common.proofs.Choices.{and-left, and-right, each-of-three, each-of-four, passed, later-passed, first-of-passed}
 use Rattle.section_echoes.specs.Packed.{total}
 use Rattle.section_echoes.specs.Walk.{slotLength}
-use Rattle.subband_erle_estimator.specs.declared.SubbandErleEstimator.{SubbandErleEstimator}
-use Rattle.subband_erle_estimator.specs.Subband.{settingsRefusal as Subband·settingsRefusal, channelOk as Subband·channelOk, stateOk as Subband·stateOk}
-use Rattle.signal_dependent_erle_estimator.specs.SignalDependent.{Update as SignalUpdate, settingsRefusal as SignalDependent·settingsRefusal, boundariesOf, sameFirst, channelOk as SignalDependent·channelOk, stateOk as SignalDependent·stateOk, allLengthsOk, allValuesOk, responsesOk, ringRefusal, refusalOf, updateRefusal as SignalDependent·updateRefusal}
+use Rattle.subband_erle_estimator.specs.Subband.{settingsRefusal as Subband·settingsRefusal, channelOk as Subband·channelOk, noChannel as Subband·noChannel, stateOk as Subband·stateOk}
+use Rattle.signal_dependent_erle_estimator.specs.SignalDependent.{Update as SignalUpdate, settingsRefusal as SignalDependent·settingsRefusal, boundariesOf, sameFirst, channelOk as SignalDependent·channelOk, noChannel as SignalDependent·noChannel, stateOk as SignalDependent·stateOk, allLengthsOk, allValuesOk, responsesOk, ringRefusal, refusalOf, updateRefusal as SignalDependent·updateRefusal}
 use Rattle.signal_dependent_erle_estimator.specs.Steps.{Passed}
-use Rattle.signal_dependent_erle_estimator.proofs.Judged.{few-captures, update-passed}
-use Rattle.fullband_erle_estimator.specs.FullBand.{settingsRefusal as FullBand·settingsRefusal, channelOk as FullBand·channelOk, stateOk as FullBand·stateOk}
+use Rattle.signal_dependent_erle_estimator.proofs.Judged.{few-captures, eight-sections, update-passed}
+use Rattle.fullband_erle_estimator.specs.FullBand.{settingsRefusal as FullBand·settingsRefusal, channelOk as FullBand·channelOk, noChannel as FullBand·noChannel, stateOk as FullBand·stateOk}
 use Rattle.erle_estimator.specs.declared.ErleEstimator.{ErleEstimator}
-use Rattle.erle_estimator.specs.Parts.{subbandSettings, signalSettings, fullbandSettings, subbandPart, signalPart, fullbandPart, streamsOf}
-use Rattle.erle_estimator.specs.Steps.{UpdateFits, streamAsked}
+use Rattle.erle_estimator.specs.Parts.{subbandSettings, signalSettings, fullbandSettings, subbandPart, signalPart, fullbandPart}
+use Rattle.erle_estimator.specs.Steps.{judgedChannels, settingsPass}
 use Rattle.erle_estimator.specs.Erle.{Update, stateOk, lentLengthsOk, lentValuesOk, updateRefusal}
 
 -- ---- settings
@@ -55,39 +54,88 @@ reordered true s g f = refl
 reordered false true g f = refl
 reordered false false g f = refl
 
-module _ (s : ErleEstimator) where
-  -- settings that pass, boundaries and records make number 20
-  pub state-judged :
-      {same channels : Bool} → settingsRefusal (s .settings) ≡ accepted
-      → let g = s .settings in
-      let n = g .«num_capture_channels» in
-      same ≡ sameFirst (suc (g .«num_sections»)) (s .«section_boundaries_blocks») (boundariesOf (signalSettings g))
-      → channels
-      ≡ every Subband·channelOk (take n (s .subband)) && every (SignalDependent·channelOk (g .«num_sections»)) (take n (s .«signal_dependent»)) && every FullBand·channelOk (take n (s .fullband))
-      → same && channels ≡ stateOk s
-  unfolding stateOk Subband·stateOk SignalDependent·stateOk FullBand·stateOk
-  state-judged {same} {channels} ok e f =
-      let g = s .settings in
-      let n = g .«num_capture_channels» in
-      rw (e, f)
-      (reordered (sameFirst (suc (g .«num_sections»)) (s .«section_boundaries_blocks») (boundariesOf (signalSettings g)))
-      (every Subband·channelOk (take n (s .subband))) (every (SignalDependent·channelOk (g .«num_sections»)) (take n (s .«signal_dependent»)))
-      (every FullBand·channelOk (take n (s .fullband)))
-      ∙ simp (
-        eq-eqb _ _ (subband-settings-passed g ok),
-        eq-eqb _ _ (signal-settings-passed g ok),
-        eq-eqb _ _ (fullband-settings-passed g ok),
-      ))
+-- settings that fail do not pass
+pub state-failed : (s : ErleEstimator) → (settingsRefusal (s .settings) ≡ accepted → ⊥) → false ≡ stateOk s
+unfolding stateOk SignalDependent·stateOk SignalDependent·settingsRefusal settingsRefusal
+state-failed s bad = go (Subband·stateOk (subbandPart s))
+  where
+    go : (t : Bool) → false ≡ t && (eqb (SignalDependent·settingsRefusal (signalSettings (s .settings))) accepted && sameFirst (suc (s .settings .«num_sections»)) (s .«section_boundaries_blocks») (boundariesOf (signalSettings (s .settings))) && every (SignalDependent·channelOk (s .settings .«num_sections»)) (take (s .settings .«num_capture_channels») (s .«signal_dependent»))) && FullBand·stateOk (fullbandPart s)
+    go true = simp (ne-eqb _ _ bad)
+    go false = refl
 
-  -- settings that fail do not
-  pub state-failed : (settingsRefusal (s .settings) ≡ accepted → ⊥) → false ≡ stateOk s
-  unfolding stateOk SignalDependent·stateOk SignalDependent·settingsRefusal settingsRefusal
-  state-failed bad = go (Subband·stateOk (subbandPart s))
+-- settings that pass have at most four channels and eight sections
+pub judged-few : (g : ErleSettings) (ch : ℕ) → ch < judgedChannels g → (ch < 4) × (g .«num_sections» ≤ 8)
+unfolding judgedChannels
+judged-few g ch h = go (eqb (settingsRefusal g) accepted) refl h
+  where
+    go : (t : Bool) → eqb (settingsRefusal g) accepted ≡ t → ch < cond t (g .«num_capture_channels») 0 → (ch < 4) × (g .«num_sections» ≤ 8)
+    go true ok h =
+        let passes = signal-settings-passed g (eqb-true _ _ ok) in
+        (omega (arith, few-captures _ passes), eight-sections _ passes)
+    go false ok h = absurd (omega arith)
+
+-- what the walk over the records knows at ch: whether the first ch pass, part by part
+pub record Walked (s : ErleEstimator) (end ch : ℕ) (subbandOk signalOk fullbandOk : Bool) : Type 0 where
+  pub judged : end ≡ judgedChannels (s .settings)
+  pub below : ch ≤ end
+  pub subband : Tested Subband·channelOk (s .subband) ch subbandOk
+  pub signal : Tested (SignalDependent·channelOk (s .settings .«num_sections»)) (s .«signal_dependent») ch signalOk
+  pub fullband : Tested FullBand·channelOk (s .fullband) ch fullbandOk
+
+pub walked-none : (s : ErleEstimator) {end : ℕ} → end ≡ judgedChannels (s .settings) → Walked s end 0 true true true
+walked-none s e = record { judged = e; below = omega arith; subband = tested-none _ _; signal = tested-none _ _; fullband = tested-none _ _ }
+
+module _ {s : ErleEstimator} {end ch : ℕ} {a b c : Bool} (w : Walked s end ch a b c) where
+  -- a turn of the walk: its channel is one of four, and there are at most eight sections
+  pub walked-few : ch < end → (ch < 4) × (s .settings .«num_sections» ≤ 8)
+  walked-few h = judged-few (s .settings) ch (omega (arith, h, w .judged))
+
+  pub walked-more :
+      {x y z : Bool} → ch < end → (length (s .subband) ≡ 4) × (length (s .«signal_dependent») ≡ 4) × (length (s .fullband) ≡ 4)
+      → x ≡ Subband·channelOk (getD (s .subband) ch Subband·noChannel)
+      → y ≡ SignalDependent·channelOk (s .settings .«num_sections») (getD (s .«signal_dependent») ch SignalDependent·noChannel)
+      → z ≡ FullBand·channelOk (getD (s .fullband) ch FullBand·noChannel)
+      → Walked s end (ch + 1) (a && x) (b && y) (c && z)
+  walked-more h (four, four-signal, four-fullband) e f g =
+      let few = walked-few h .0 in
+      record {
+        judged = w .judged;
+        below = omega arith;
+        subband = tested-more Subband·noChannel (w .subband) (omega arith) e;
+        signal = tested-more SignalDependent·noChannel (w .signal) (omega arith) f;
+        fullband = tested-more FullBand·noChannel (w .fullband) (omega arith) g;
+      }
+
+  -- the settings and the boundaries, and the records that were looked at, make number 20
+  pub walked-all : {pass : Bool} → end ≤ ch → pass ≡ settingsPass (s .settings) (s .«section_boundaries_blocks») → pass && (a && b && c) ≡ stateOk s
+  unfolding stateOk Subband·stateOk SignalDependent·stateOk FullBand·stateOk settingsPass judgedChannels
+  walked-all {pass} over e = ap (λ (t : Bool). t && (a && b && c)) e ∙ go (eqb (settingsRefusal (s .settings)) accepted) refl
     where
-      go : (t : Bool) → false ≡ t && (eqb (SignalDependent·settingsRefusal (signalSettings (s .settings))) accepted && sameFirst (suc (s .settings .«num_sections»)) (s .«section_boundaries_blocks») (boundariesOf (signalSettings (s .settings))) && every (SignalDependent·channelOk (s .settings .«num_sections»)) (take (s .settings .«num_capture_channels») (s .«signal_dependent»))) && FullBand·stateOk (fullbandPart s)
-      go true = simp (ne-eqb _ _ bad)
-      go false = refl
+      last : (t : Bool) → eqb (settingsRefusal (s .settings)) accepted ≡ t → ch ≡ cond t (s .settings .«num_capture_channels») 0
+      last t ok =
+          let all : ch ≡ end = omega (arith, over, w .below) in
+          all ∙ w .judged ∙ ap (λ (t : Bool). cond t (s .settings .«num_capture_channels») 0) ok
 
+      go :
+          (t : Bool) → eqb (settingsRefusal (s .settings)) accepted ≡ t
+          → (t && sameFirst (suc (s .settings .«num_sections»)) (s .«section_boundaries_blocks») (boundariesOf (signalSettings (s .settings)))) && (a && b && c)
+          ≡ stateOk s
+      go true ok =
+          let g = s .settings in
+          let passes = eqb-true _ _ ok in
+          let all = last true ok in
+          reordered (sameFirst (suc (g .«num_sections»)) (s .«section_boundaries_blocks») (boundariesOf (signalSettings g))) a b c
+          ∙ simp (
+            w .subband .told ∙ ap (λ (k : ℕ). every Subband·channelOk (take k (s .subband))) all,
+            w .signal .told ∙ ap (λ (k : ℕ). every (SignalDependent·channelOk (g .«num_sections»)) (take k (s .«signal_dependent»))) all,
+            w .fullband .told ∙ ap (λ (k : ℕ). every FullBand·channelOk (take k (s .fullband))) all,
+            eq-eqb _ _ (subband-settings-passed g passes),
+            eq-eqb _ _ (signal-settings-passed g passes),
+            eq-eqb _ _ (fullband-settings-passed g passes),
+          )
+      go false ok = state-failed s (λ z. true≢false (sym (eq-eqb _ _ z) ∙ ok))
+
+module _ (s : ErleEstimator) where
   module _ (ok : stateOk s ≡ true) where
     each : (Subband·stateOk (subbandPart s) ≡ true) × (SignalDependent·stateOk (signalPart s) ≡ true) × (FullBand·stateOk (fullbandPart s) ≡ true)
     unfolding stateOk
@@ -193,7 +241,7 @@ module _ (s : ErleEstimator) (u : Update) (e : updateRefusal s u ≡ accepted) w
 
 module _ {s : ErleEstimator} {u : Update} (a : Accepted s u) where
   -- what is lent fits a part that passes
-  pub fits : {ok : Bool} → ok ≡ true → UpdateFits ok (s .settings .«num_capture_channels») (u .converged) (u .render) (u .capture) (u .residual)
+  pub fits : {ok : Bool} → ok ≡ true → UpdateOk ok (s .settings .«num_capture_channels») (u .converged) (u .render) (u .capture) (u .residual)
   fits ok =
       record {
         state = ok;
@@ -203,40 +251,4 @@ module _ {s : ErleEstimator} {u : Update} (a : Accepted s u) where
         longResidual = rw (a .count) at (a .lent .residual);
         captureOk = a .captureOk;
         residualOk = a .residualOk;
-      }
-
-  -- and the signal-dependent part, with streams of the subband part
-  pub lent-streams :
-      (subband : SubbandErleEstimator) → subband .settings .«num_capture_channels» ≡ s .settings .«num_capture_channels»
-      → Passed (signalPart s)
-      (record {
-        channels = u .channels;
-        ring = u .ring;
-        spectra = u .spectra;
-        counts = u .counts;
-        responses = u .responses;
-        render = u .render;
-        capture = u .capture;
-        residual = u .residual;
-        average = streamsOf (streamAsked false) subband;
-        averageCompensated = streamsOf (streamAsked true) subband;
-        converged = u .converged;
-      })
-  unfolding streamsOf
-  lent-streams subband same =
-      let p = a .lent in
-      let long : subband .settings .«num_capture_channels» * 65 ≡ u .channels * 65 = omega (arith, same, a .count) in
-      record {
-        state = p .state;
-        count = p .count;
-        ring = p .ring;
-        flags = p .flags;
-        render = p .render;
-        capture = p .capture;
-        residual = p .residual;
-        average = length-tab (subband .settings .«num_capture_channels» * 65) _ ∙ long;
-        averageCompensated = length-tab (subband .settings .«num_capture_channels» * 65) _ ∙ long;
-        counts = p .counts;
-        blocks = p .blocks;
-        responses = p .responses;
       }

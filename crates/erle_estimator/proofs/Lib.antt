@@ -1,3 +1,3 @@
 pub mod Judged
 pub mod Packed
-pub mod Whole
+pub mod Updates

@@ -1,4 +1,5 @@
 // The whole ERLE estimator: subband, signal-dependent and fullband under one set of settings and one block count.
+mod judge;
 mod moves;
 mod parts;
 mod streams;
@@ -7,43 +8,39 @@ use aec3_common::counts::one_more;
 use aec3_common::refusal::ACCEPTED;
 use aec3_common::refusal::BAD_STATE;
 pub use aec3_common::settings::ErleSettings;
+use aec3_common::spectra::part;
 pub use aec3_common::streams::erle;
 use fullband_erle_estimator::FullBandChannel;
 use fullband_erle_estimator::FullBandErleEstimator;
 pub use fullband_erle_estimator::FullBandFigure;
 pub use fullband_erle_estimator::OptionalNumber;
 pub use fullband_erle_estimator::QualityAnswer;
-use moves::fullband_updated;
-use moves::signal_updated;
-use moves::subband_updated;
+use fullband_erle_estimator::is_loud;
+use judge::judged_channels;
+use judge::settings_pass;
+use moves::active_sections;
+use moves::fullband_channel;
+use moves::render_subbands;
+use moves::signal_channel;
+use moves::subband_channel;
 use parts::fullband_settings;
 use parts::refused_settings;
 use parts::signal_settings;
 use parts::subband_settings;
 pub use section_echoes::RenderRing;
 use signal_dependent_erle_estimator::SignalDependentChannel;
-use signal_dependent_erle_estimator::SignalDependentErleEstimator;
 use signal_dependent_erle_estimator::boundaries_of;
 use signal_dependent_erle_estimator::judge::update_refusal;
-use signal_dependent_erle_estimator::same_first;
 pub use streams::ErleStreams;
 pub use streams::erle_streams;
 use subband_erle_estimator::SubbandChannel;
-use subband_erle_estimator::SubbandErleEstimator;
 ghost use mathlib.Core.Path.{_≡_};
-ghost use mathlib.Core.Bool.{true, _&&_};
-ghost use Prim.Native.Nat.{_≤_};
+ghost use mathlib.Core.Bool.{true};
 ghost use lib.Ieee.{binary32, add, lt};
-ghost use lib.ListN.{take};
 ghost use Rattle.aec3_common.specs.Binary32.{zero32};
-ghost use Rattle.aec3_common.specs.Lists.{every};
-ghost use Rattle.aec3_common.specs.Refusal.{accepted};
-ghost use Rattle.subband_erle_estimator.specs.Subband.{channelOk as Subband·channelOk};
-ghost use Rattle.signal_dependent_erle_estimator.specs.SignalDependent.{channelOk as SignalDependent·channelOk};
 ghost use Rattle.fullband_erle_estimator.specs.Instantaneous.{epsilon};
-ghost use Rattle.fullband_erle_estimator.specs.FullBand.{channelOk as FullBand·channelOk};
 ghost use Rattle.erle_estimator.specs.Parts.{fullbandPart};
-ghost use Rattle.erle_estimator.specs.Erle.{Update, stateOk, updateRefusal, startedWith, startAnswer, blocksKept, resetAnswer, updated as Erle·updated, afterAccepted as Erle·afterAccepted, updateAnswer, log2Answer, decibelAnswer, qualityAnswer};
+ghost use Rattle.erle_estimator.specs.Erle.{Update, stateOk, startedWith, startAnswer, blocksKept, resetAnswer, updateAnswer, log2Answer, decibelAnswer, qualityAnswer};
 
 // The settings once, the startup count, the blocks counted since the latest reset that came with a change of delay, and four records of
 // each part.
@@ -109,39 +106,24 @@ impl ErleEstimator {
         }
     }
 
-    // Whether each of the state's channels passes number 20, in each part.
-    fn channels_ok(self) -> bool
-        requires { ⌜ (self .settings .«num_capture_channels» ≤ 4) × (self .settings .«num_sections» ≤ 8) ⌝ }
-        ensures { λ r. ⌜ r ≡ every Subband·channelOk (take (self .settings .«num_capture_channels») (self .subband)) && every (SignalDependent·channelOk (self .settings .«num_sections»)) (take (self .settings .«num_capture_channels») (self .«signal_dependent»)) && every FullBand·channelOk (take (self .settings .«num_capture_channels») (self .fullband)) ⌝ }
-    {
-        let count = self.settings.num_capture_channels;
-        let sections = self.settings.num_sections as u32;
-        let mut subband_ok = true;
-        let mut signal_ok = true;
-        let mut fullband_ok = true;
-        for ch in 0..count {
-            let subband = self.subband[ch];
-            let signal = self.signal_dependent[ch];
-            let fullband = self.fullband[ch];
-            subband_ok = subband_ok & subband.ok();
-            signal_ok = signal_ok & signal.ok(sections);
-            fullband_ok = fullband_ok & fullband.ok();
-        }
-        subband_ok & signal_ok & fullband_ok
-    }
-
     // Whether number 20 lets the state pass.
     fn ok(self) -> bool
         ensures { λ r. ⌜ r ≡ stateOk self ⌝ }
     {
         let settings = self.settings;
-        if settings.refusal() == ACCEPTED {
-            let held = self.section_boundaries_blocks;
-            let given = boundaries_of(signal_settings(settings));
-            same_first(settings.num_sections + 1, &held, &given) & self.channels_ok()
-        } else {
-            false
+        let held = self.section_boundaries_blocks;
+        let mut subband_ok = true;
+        let mut signal_ok = true;
+        let mut fullband_ok = true;
+        for ch in 0..judged_channels(settings) {
+            let subband = self.subband[ch];
+            let signal = self.signal_dependent[ch];
+            let fullband = self.fullband[ch];
+            subband_ok = subband_ok & subband.ok();
+            signal_ok = signal_ok & signal.ok(settings.num_sections as u32);
+            fullband_ok = fullband_ok & fullband.ok();
         }
+        settings_pass(settings, &held) & (subband_ok & signal_ok & fullband_ok)
     }
 
     // Every part as after a start; the count is cleared only if the delay changed. 20 is turned away.
@@ -162,108 +144,11 @@ impl ErleEstimator {
         }
     }
 
-    // Every part, one after the other, none of which judges again.
-    fn updated(
-        self,
-        num_capture_channels: usize,
-        ring: RenderRing,
-        spectra: &[f32],
-        response_blocks: &[usize],
-        responses: &[f32],
-        x2: &[f32],
-        y2: &[f32],
-        e2: &[f32],
-        converged_filters: &[bool],
-    ) -> ErleEstimator
-        requires { ⌜ updateRefusal self (record { channels = «num_capture_channels»; ring = ring; spectra = now (spectra); counts = now («response_blocks»); responses = now (responses); render = now (x2); capture = now (y2); residual = now (e2); converged = now («converged_filters») }) ≡ accepted ⌝ }
-        ensures { λ r. ⌜ r ≡ Erle·updated self (record { channels = «num_capture_channels»; ring = ring; spectra = now (spectra .entry); counts = now («response_blocks» .entry); responses = now (responses .entry); render = now (x2 .entry); capture = now (y2 .entry); residual = now (e2 .entry); converged = now («converged_filters» .entry) }) ⌝ }
-    {
-        let settings = self.settings;
-        let section_boundaries_blocks = self.section_boundaries_blocks;
-        let channels = self.subband;
-        let part = SubbandErleEstimator {
-            settings: subband_settings(settings),
-            channels,
-        };
-        let subband = subband_updated(part, converged_filters, x2, y2, e2);
-        let channels = self.signal_dependent;
-        let part = SignalDependentErleEstimator {
-            settings: signal_settings(settings),
-            section_boundaries_blocks,
-            channels,
-        };
-        let signal = signal_updated(
-            part,
-            subband,
-            num_capture_channels,
-            ring,
-            spectra,
-            response_blocks,
-            responses,
-            x2,
-            y2,
-            e2,
-            converged_filters,
-        );
-        let channels = self.fullband;
-        let part = FullBandErleEstimator {
-            settings: fullband_settings(settings),
-            channels,
-        };
-        let fullband = fullband_updated(part, converged_filters, x2, y2, e2);
-        let subband = subband.channels;
-        let signal_dependent = signal.channels;
-        let fullband = fullband.channels;
-        ErleEstimator {
-            settings,
-            startup_phase_length_blocks: self.startup_phase_length_blocks,
-            blocks_since_reset: self.blocks_since_reset,
-            section_boundaries_blocks,
-            subband,
-            signal_dependent,
-            fullband,
-        }
-    }
-
-    // An accepted block is counted; below the startup count nothing else happens.
-    fn after_accepted(
-        mut self,
-        num_capture_channels: usize,
-        ring: RenderRing,
-        spectra: &[f32],
-        response_blocks: &[usize],
-        responses: &[f32],
-        x2: &[f32],
-        y2: &[f32],
-        e2: &[f32],
-        converged_filters: &[bool],
-    ) -> ErleEstimator
-        requires { ⌜ updateRefusal self (record { channels = «num_capture_channels»; ring = ring; spectra = now (spectra); counts = now («response_blocks»); responses = now (responses); render = now (x2); capture = now (y2); residual = now (e2); converged = now («converged_filters») }) ≡ accepted ⌝ }
-        ensures { λ r. ⌜ r ≡ Erle·afterAccepted self (record { channels = «num_capture_channels»; ring = ring; spectra = now (spectra .entry); counts = now («response_blocks» .entry); responses = now (responses .entry); render = now (x2 .entry); capture = now (y2 .entry); residual = now (e2 .entry); converged = now («converged_filters» .entry) }) ⌝ }
-    {
-        let blocks = one_more(self.blocks_since_reset);
-        self.blocks_since_reset = blocks;
-        if blocks < self.startup_phase_length_blocks {
-            self
-        } else {
-            self.updated(
-                num_capture_channels,
-                ring,
-                spectra,
-                response_blocks,
-                responses,
-                x2,
-                y2,
-                e2,
-                converged_filters,
-            )
-        }
-    }
-
     // One block: the ring and its spectra, the number of response blocks of each channel and the responses, render, captures and
     // residuals, and the flags. 20, 21, 2, 4, 9, 5 and 6 are turned away, in startup too; a block that is turned away is not counted.
+    // All of it stands in one function, the judging of the records once more too: handing the state to another one copies all of it.
     pub fn update(
-        self,
+        mut self,
         num_capture_channels: usize,
         ring: RenderRing,
         spectra: &[f32],
@@ -276,11 +161,26 @@ impl ErleEstimator {
     ) -> ErleAnswer
         ensures { λ r. ⌜ r ≡ updateAnswer self (record { channels = «num_capture_channels»; ring = ring; spectra = now (spectra .entry); counts = now («response_blocks» .entry); responses = now (responses .entry); render = now (x2 .entry); capture = now (y2 .entry); residual = now (e2 .entry); converged = now («converged_filters» .entry) }) ⌝ }
     {
+        let settings = self.settings;
+        let held = self.section_boundaries_blocks;
+        let signal_part = signal_settings(settings);
+        let mut subband_ok = true;
+        let mut signal_ok = true;
+        let mut fullband_ok = true;
+        for ch in 0..judged_channels(settings) {
+            let subband = self.subband[ch];
+            let signal = self.signal_dependent[ch];
+            let fullband = self.fullband[ch];
+            subband_ok = subband_ok & subband.ok();
+            signal_ok = signal_ok & signal.ok(settings.num_sections as u32);
+            fullband_ok = fullband_ok & fullband.ok();
+        }
+        let state_ok = settings_pass(settings, &held) & (subband_ok & signal_ok & fullband_ok);
         // This chain also judges the two streams that the signal-dependent estimator is lent. Here none are lent, so that captures and
         // residuals are handed in twice; judging them twice changes nothing.
         let refused = update_refusal(
-            self.ok(),
-            signal_settings(self.settings),
+            state_ok,
+            signal_part,
             num_capture_channels,
             ring,
             spectra,
@@ -294,23 +194,57 @@ impl ErleEstimator {
             converged_filters,
         );
         if refused == ACCEPTED {
-            let state = self.after_accepted(
-                num_capture_channels,
-                ring,
-                spectra,
-                response_blocks,
-                responses,
-                x2,
-                y2,
-                e2,
-                converged_filters,
-            );
-            ErleAnswer { state, refused }
-        } else {
-            ErleAnswer {
-                state: self,
-                refused,
+            let blocks = one_more(self.blocks_since_reset);
+            self.blocks_since_reset = blocks;
+            if self.startup_phase_length_blocks <= blocks {
+                let subband_part = subband_settings(settings);
+                let fullband_part = fullband_settings(settings);
+                let active = active_sections(
+                    signal_part,
+                    &held,
+                    ring,
+                    spectra,
+                    response_blocks,
+                    responses,
+                );
+                let x2_subbands = render_subbands(signal_part, x2);
+                let loud = is_loud(converged_filters, x2);
+                let min_erle_log2 = fullband_part.min_erle_log2();
+                for ch in 0..num_capture_channels {
+                    let converged = converged_filters[ch];
+                    let own_y2 = part(y2, ch);
+                    let own_e2 = part(e2, ch);
+                    let c = self.subband[ch];
+                    let subband = subband_channel(c, subband_part, converged, x2, own_y2, own_e2);
+                    self.subband[ch] = subband;
+                    let c = self.signal_dependent[ch];
+                    let average = subband.erle;
+                    let average_compensated = subband.erle_onset_compensated;
+                    self.signal_dependent[ch] = signal_channel(
+                        c,
+                        signal_part,
+                        &active[ch],
+                        &x2_subbands,
+                        converged,
+                        own_y2,
+                        own_e2,
+                        &average,
+                        &average_compensated,
+                    );
+                    let c = self.fullband[ch];
+                    self.fullband[ch] = fullband_channel(
+                        c,
+                        min_erle_log2,
+                        loud & converged,
+                        own_y2,
+                        own_e2,
+                    );
+                }
             }
+        }
+        ErleAnswer {
+            state: self,
+            refused,
         }
     }
 

@@ -21,7 +21,7 @@ use Rattle.fullband_erle_estimator.specs.Steps.{loudFor}
 
 module _ (s : FullBandErleEstimator) (converged : List Bool) (x y e : List Float) where
   -- a channel after the update
-  pub channelOf : ℕ → FullBandChannel
+  unfoldable pub channelOf : ℕ → FullBandChannel
   channelOf ch = channelAfter (minLog2 (s .settings)) (getD converged ch false) x (part y ch) (part e ch) (channelAt s ch)
 
   -- whether it accumulates, as the code asks

@@ -15,7 +15,7 @@ use Rattle.subband_erle_estimator.specs.Channel.{quiet, coreAfter, onset
 use Rattle.subband_erle_estimator.specs.Subband.{stateOk, noChannel, channelAt, blockOf, updated}
 
 -- where a channel stands unconverged its powers are not looked at
-quiet-any :
+pub quiet-any :
     (g : SubbandSettings) (c : SubbandChannel) (x y e : List Float)
     → channelAfter g quiet c ≡ channelAfter g (record { converged = false; render = x; capture = y; residual = e }) c
 unfolding channelAfter coreAfter onsetAfter
@@ -23,7 +23,7 @@ quiet-any g c x y e = refl
 
 -- a channel after the update
 module _ (s : SubbandErleEstimator) (converged : List Bool) (x y e : List Float) where
-  pub channelOf : ℕ → SubbandChannel
+  unfoldable pub channelOf : ℕ → SubbandChannel
   channelOf ch = channelAfter (s .settings) (blockOf converged x y e ch) (channelAt s ch)
 
   pub converged-channel :

@@ -1,54 +1,63 @@
+-- The walk looks at the records one by one. The measure is the records left.
 use borrow.Author.Needs.{needs}
-use mathlib.Core.Path.{_≡_, _∙_, sym}
-use native.Mathlib.Numerals.{add-one}
+use mathlib.Core.Path.{_≡_}
+use Prim.Native.Nat.{_-_, _≤_, _<_}
 use native.Mathlib.Omega.{arith}
-use Prim.Native.Nat.{_≤_}
-use Rattle.aec3_common.specs.Refusal.{accepted}
-use Rattle.aec3_common.specs.Settings.{settingsRefusal}
-use Rattle.signal_dependent_erle_estimator.proofs.Judged.{few-captures, eight-sections}
-use Rattle.erle_estimator.proofs.Judged.{signal-settings-passed, state-judged, state-failed}
+use lib.ListN.{length}
+use Rattle.aec3_common.proofs.Tables.{length-mapped}
+use Rattle.erle_estimator.proofs.Judged.{Walked, walked-none, walked-few, walked-more, walked-all}
 use Rattle.erle_estimator.proofs.ErleEstimator.ok.Statement.{statement}
 use Rattle.erle_estimator.proofs.ErleEstimator.ok.Tie as tie
 
--- the settings pass
-passes : (c : tie.Then1) → settingsRefusal (c .before .before .before .args .self .settings) ≡ accepted
-passes c = sym (c .before .refusal .ensures) ∙ c .if1 .taken
+abbrev Inv-loop : tie.InvT-loop
+Inv-loop self settings held subband-ok₀ signal-ok₀ fullband-ok₀ ch₀ ch-end subband-ok signal-ok fullband-ok ch =
+    Walked self ch-end ch subband-ok signal-ok fullband-ok
 
-few-sections : (c : tie.Then1) → c .before .before .before .args .self .settings .«num_sections» ≤ 8
-few-sections c = eight-sections _ (signal-settings-passed _ (passes c))
+abbrev μ-loop : tie.MeasureT-loop
+μ-loop self settings held subband-ok₀ signal-ok₀ fullband-ok₀ ch₀ ch-end subband-ok signal-ok fullband-ok ch = ch-end - ch
 
-add-same-first : tie.Need-add-same-first
-add-same-first c = record { fits = omega (arith, few-sections (c .before .before .before .before)) }
+loop-holds : tie.Need-loop-holds Inv-loop μ-loop
+loop-holds c = walked-none _ (c .judged-channels .ensures)
 
-same-first-requires : tie.Need-same-first-requires
-same-first-requires c κs = omega (arith, few-sections (c .before .before .before .before .before .before))
+-- a turn of the walk
+few : (c : tie.In-loop Inv-loop μ-loop) → (c .before .loop .ch < 4) × (c .before .before .before .before .before .args .t1 .settings .«num_sections» ≤ 8)
+few c = walked-few (c .before .loop .inv) (c .loop-test .taken)
 
-channels-ok-requires : tie.Need-channels-ok-requires
-channels-ok-requires c κs =
-    let ok = passes (c .before .before .before .before .before .before .before) in
-    (few-captures _ (signal-settings-passed _ ok), eight-sections _ (signal-settings-passed _ ok))
+-- each part has four records
+four :
+    (c : tie.Start Inv-loop μ-loop)
+    → (length (c .args .t1 .subband) ≡ 4) × (length (c .args .t1 .«signal_dependent») ≡ 4) × (length (c .args .t1 .fullband) ≡ 4)
+four c = (search (needs, length-mapped), search (needs, length-mapped), search (needs, length-mapped))
 
-returns : tie.Need-returns
-returns c =
-    let start = c .before .before .before .before .before .before .before .before .before .before .before in
-    let s = start .args .self in
-    state-judged s (passes (c .before .before .before .before .before .before .before .before))
-    (c .before .same-first .ensures
-    ∙ simp (c .before .before .before .before .before .boundaries-of .ensures, c .before .before .before .before .before .before .signal-settings .ensures, add-one))
-    (c .channels-ok .ensures)
+loop-again : tie.Need-loop-again Inv-loop μ-loop
+loop-again c =
+    let turn = c .before .before .before .before .before .before .before in
+    walked-more (turn .before .loop .inv) (turn .loop-test .taken) (four (turn .before .before .before .before .before))
+    (c .before .before .before .ok .ensures) (c .before .ok2 .ensures) (c .ok3 .ensures)
 
-returns-2 : tie.Need-returns-2
-returns-2 c = state-failed _ (λ z. c .if1 .left (c .before .refusal .ensures ∙ z))
+returns : tie.Need-returns Inv-loop μ-loop
+returns c = walked-all (c .before .before .before .loop .inv) (c .before .before .loop-test .left) (c .settings-pass .ensures)
 
 pub ok-spec : {M : Type 1} → statement M
 ok-spec =
     tie.close
     (tie.spec
+    Inv-loop
+    μ-loop
+    (λ c κs. search needs)
+    loop-holds
+    (λ c. record { fits = omega (arith, few c .0) })
+    (λ c. few c .0)
+    (λ c. record { fits = omega (arith, few (c .before) .0) })
+    (λ c. few (c .before) .0)
+    (λ c. record { fits = omega (arith, few (c .before .before) .0) })
+    (λ c. few (c .before .before) .0)
+    (λ c κs. search needs)
+    (λ c. record { fits = omega (arith, few (c .before .before .before .before .before) .1) })
     (λ c κs. search needs)
     (λ c κs. search needs)
+    (λ c. search needs)
+    (λ c. search needs)
+    loop-again
     (λ c κs. search needs)
-    add-same-first
-    same-first-requires
-    channels-ok-requires
-    returns
-    returns-2)
+    returns)
