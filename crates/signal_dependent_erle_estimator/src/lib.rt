@@ -134,8 +134,8 @@ impl SignalDependentErleEstimator {
         }
     }
 
-    // A block for a caller that has judged it, with two sections or more: every channel has new active sections and streams, and a converged one learns.
-    pub fn updated(
+    // A block that was judged, with two sections or more: every channel has new active sections and streams, and a converged one learns.
+    fn updated(
         mut self,
         num_capture_channels: usize,
         ring: RenderRing,
