@@ -38,7 +38,7 @@ impl fmt::Display for Refusal {
 
 pub type Judged = Result<(), Refusal>;
 
-fn refuse_if(fault: bool, number: u32) -> Judged {
+pub fn refuse_if(fault: bool, number: u32) -> Judged {
     if fault {
         Err(Refusal(number))
     } else {

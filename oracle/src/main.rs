@@ -13,6 +13,7 @@ mod scripts;
 mod speed;
 #[cfg(test)]
 mod tests;
+mod trace;
 
 // The published modules `api` and `audio_processing`, see build.rs.
 include!(concat!(env!("OUT_DIR"), "/published.rs"));
@@ -38,6 +39,7 @@ fn main() -> ExitCode {
     let done = match words[..] {
         ["run", program] => run_script(program, false),
         ["run", program, "state"] => run_script(program, true),
+        ["list"] => list_trace(),
         ["generate", name] => generate(name, None),
         ["generate", name, number] => generate(name, Some(number)),
         ["compare", ref files @ ..] if files.len() <= Program::ALL.len() => compare_with(files),
@@ -61,6 +63,12 @@ fn run_script(program: &str, state: bool) -> Result<ExitCode, String> {
     io::stdin().read_to_end(&mut script).map_err(plain)?;
     let (lines, _) = run::Run::showing(program, state, &script).finish();
     print_bytes(lines.as_bytes())
+}
+
+/// Lists a trace.
+fn list_trace() -> Result<ExitCode, String> {
+    trace::stream::list(io::stdin().lock(), io::stdout().lock()).map_err(plain)?;
+    Ok(ExitCode::SUCCESS)
 }
 
 fn known(program: &str) -> Result<Program, String> {
