@@ -1,9 +1,9 @@
 -- What the bytes of a record say: two bytes of kind, and the body. A record is counted from its kind on, without its L.
-use Prim.Native.Nat.{ℕ, _+_, _*_, _/_, _%_}
+use Prim.Native.Nat.{ℕ, _+_, _-_, _*_, _/_, _%_}
 use mathlib.Core.Bool.{Bool, true, false, cond, _&&_}
 use mathlib.Core.List.{List, []}
-use lib.Dec.{leb, eqb}
-use lib.Ieee.{Float, binary32, ofBits}
+use lib.Dec.{leb, ltb, eqb}
+use lib.Ieee.{Float, nan, binary32, ofBits}
 use lib.ListN.{length, getD}
 use Rattle.aec3_common.specs.declared.settings.ErleSettings.{ErleSettings}
 use Rattle.aec3_common.specs.Binary32.{zero32}
@@ -132,14 +132,23 @@ unfoldable pub tablesOf : List Bool → List Float → List Float → List Float
 tablesOf flags render capture residual =
     record {
       «converged_filters» = inTable 4 false flags;
-      x2 = inTable 65 zero32 render;
+      x2 = render;
       y2 = inTable 260 zero32 capture;
       e2 = inTable 260 zero32 residual;
     }
 
--- A block of n channels. A record that is not as long as one of up to four channels holds none: every flag is no and every number 0.
+-- no channels, and no render power
+unfoldable pub noBlock : Block
+noBlock = tablesOf [] (tab 65 (λ k. zero32)) [] []
+
+-- a block of n channels; none where the record is not as long as one of up to four channels
 unfoldable pub blockIn : ℕ → List ℕ → Block
 blockIn n r =
     cond (leb n maxCaptureChannels && eqb (length r) (blockLength n))
     (tablesOf (flagsIn n r) (renderIn n r) (captureIn n r) (residualIn n r))
-    (tablesOf [] [] [] [])
+    noBlock
+
+-- a table with the spectrum at place i of a record laid over it, from entry at on
+unfoldable pub withSpectrum : List Float → ℕ → List ℕ → ℕ → List Float
+withSpectrum xs at r i =
+    tab (length xs) (λ k. cond (leb at k && ltb k (at + 65)) (valueAt r (i + 4 * (k - at))) (getD xs k nan))

@@ -34,5 +34,9 @@ pub fn frame_length(s: &[u8]) -> usize
     ensures { λ r. ⌜ r ≡ frameLength (now (s .entry)) ⌝ }
 {
     let length = length_of(s);
-    if s.len() < LENGTH_SIZE + length { 0 } else { length }
+    if s.len() < LENGTH_SIZE + length {
+        0
+    } else {
+        length
+    }
 }

@@ -8,6 +8,7 @@ pub use frames::length_of;
 pub use judge::Standing;
 pub use records::Block;
 pub use records::band_in;
+pub use records::block_in;
 pub use records::delay_changed_in;
 pub use records::kind_of;
 pub use records::settings_in;

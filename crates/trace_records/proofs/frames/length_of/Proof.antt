@@ -17,29 +17,27 @@ too-short c =
 
 too-long : tie.Need-returns-3
 unfolding lengthOf
-too-long c =
-    (
-      simp (
-        sym (c .before .before .before .word-at .ensures),
-        le-leb _ _ (c .before .before .if1 .left),
-        le-leb _ _ (c .before .if2 .left),
-        lt-leb _ _ (c .if3 .taken),
-      ),
-      search needs,
-    )
+too-long c = (
+  simp (
+    sym (c .before .before .before .word-at .ensures),
+    le-leb _ _ (c .before .before .if1 .left),
+    le-leb _ _ (c .before .if2 .left),
+    lt-leb _ _ (c .if3 .taken),
+  ),
+  search needs,
+)
 
 good : tie.Need-returns-4
 unfolding lengthOf
-good c =
-    (
-      simp (
-        sym (c .before .before .before .word-at .ensures),
-        le-leb _ _ (c .before .before .if1 .left),
-        le-leb _ _ (c .before .if2 .left),
-        le-leb _ _ (c .if3 .left),
-      ),
-      search needs,
-    )
+good c = (
+  simp (
+    sym (c .before .before .before .word-at .ensures),
+    le-leb _ _ (c .before .before .if1 .left),
+    le-leb _ _ (c .before .if2 .left),
+    le-leb _ _ (c .if3 .left),
+  ),
+  search needs,
+)
 
 pub length-of-spec : {M : Type 1} → statement M
 length-of-spec =
