@@ -6,6 +6,7 @@ pub mod records;
 pub use frames::frame_length;
 pub use frames::length_of;
 pub use judge::Standing;
+pub use judge::form_refusal;
 pub use records::Block;
 pub use records::band_in;
 pub use records::block_in;
