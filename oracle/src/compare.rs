@@ -40,7 +40,8 @@ fn compare_all(name: &Name, file: &str) -> Result<String, String> {
                 difference
             } else {
                 format!(
-                    "script {} (oracle generate {} {0})\n{difference}",
+                    "{} {} (oracle generate {} {1})\n{difference}",
+                    name.program.input(),
                     at + 1,
                     name.name
                 )
@@ -49,7 +50,7 @@ fn compare_all(name: &Name, file: &str) -> Result<String, String> {
     }
     Ok(match count {
         1 => format!("{records} records"),
-        many => format!("{many} scripts, {records} records"),
+        many => format!("{many} {}s, {records} records", name.program.input()),
     })
 }
 

@@ -21,6 +21,14 @@ impl Program {
         }
     }
 
+    /// What its input is called.
+    pub fn input(self) -> &'static str {
+        match self {
+            Self::Replay | Self::ReplayParts => "script",
+            Self::TracePrinter => "trace",
+        }
+    }
+
     pub fn named(name: &str) -> Option<Self> {
         Self::ALL.into_iter().find(|program| program.name() == name)
     }

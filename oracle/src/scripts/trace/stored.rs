@@ -1,7 +1,7 @@
 //! The stored sample of the program that lists many traces. Each has at most
 //! 65,536 bytes.
 
-use super::damaged::sorts;
+use super::damaged::{sorts, Sort};
 use super::draft::Draft;
 use super::random::Manner;
 use super::{sample, settled, Script, Settings, EXAMPLE};
@@ -14,7 +14,7 @@ use crate::scripts::part::{converged, quiet, POINTS};
 use crate::scripts::random::Random;
 use crate::scripts::spectra::{Power, LOUD};
 use crate::scripts::subband::stretches::Ratio;
-use crate::trace::records::LENGTHS;
+use crate::trace::records::{LENGTHS, SETTINGS};
 
 /// Larger bad traces are left out, but for one.
 const LARGE: usize = 4_000;
@@ -50,12 +50,12 @@ fn low_energy() -> Script {
     script
 }
 
-/// A few random blocks with a reset among them.
+/// A few random blocks, as many as give a first ratio, with a reset among them.
 fn short(channels: u8, onset: bool) -> Script {
     let settings = Settings {
         channels,
         onset,
-        startup: channels as u32 - 1,
+        startup: [0, 1, 2, 0][channels as usize - 1],
         band: [0, 31, 32, 64][channels as usize - 1],
         ..EXAMPLE
     };
@@ -89,18 +89,18 @@ fn cuts() -> Vec<Script> {
 
 /// Settings of the greatest length, which is not theirs.
 fn longest() -> Script {
-    let size = *LENGTHS.end() as usize;
-    let mut script = Script::default();
     let mut body = EXAMPLE.body();
-    body.resize(size - 2, 0);
-    script.whole(crate::trace::records::SETTINGS, &body);
+    body.resize(*LENGTHS.end() as usize - 2, 0);
+    let mut script = Script::default();
+    script.whole(SETTINGS, &body);
     script
 }
 
-/// Records with a fault, and with a fault of every choice of numbers.
+/// Good records, records with a fault, and records with a fault of every choice of
+/// numbers.
 fn damaged() -> Vec<Script> {
-    let drafts = |sort: &super::damaged::Sort| [sort.inside_and_alone(), sort.choices()].concat();
-    let drafts = sorts(1).iter().flat_map(drafts).collect::<Vec<_>>();
-    let traces = drafts.iter().map(Draft::trace);
+    let drafts = |sort: Sort| [sort.inside_and_alone(), sort.choices()].concat();
+    let traces = sorts(1).into_iter().flat_map(drafts);
+    let traces = traces.map(|draft: Draft| draft.trace());
     traces.filter(|trace| trace.bytes.len() < LARGE).collect()
 }
