@@ -1,3 +1,4 @@
 pub mod Erle
 pub mod Parts
+pub mod Runs
 pub mod Steps

@@ -17,7 +17,7 @@ use Rattle.aec3_common.specs.Lists.{every}
 use Rattle.aec3_common.specs.Refusal.{accepted, badState}
 use Rattle.aec3_common.specs.Spectra.{part, sum}
 use Rattle.aec3_common.proofs.Bands.{part-length, part-every}
-use Rattle.aec3_common.proofs.Calls.{few-channels, update-ok, update-not-20, run-keeps}
+use Rattle.aec3_common.proofs.Calls.{UpdateOk, few-channels, update-ok, update-not-20, run-keeps}
 use Rattle.aec3_common.proofs.Choices.{and-left, and-right, cond-has}
 use Rattle.aec3_common.proofs.Every.{every-first}
 use Rattle.aec3_common.proofs.Floats.{not-below-itself, larger-not-below, smaller-not-below}
@@ -136,7 +136,7 @@ module _ (min : Float) (some : T (number min)) where
 -- ---- a state
 
 -- What a state keeps: its settings, and what each of its channels keeps.
-record Kept (g : FullBandSettings) (s : FullBandErleEstimator) : Type 0 where
+pub record Kept (g : FullBandSettings) (s : FullBandErleEstimator) : Type 0 where
   settings : s .settings ≡ g
   channels : (ch : ℕ) → ch < g .«num_capture_channels» → ChannelKept (minLog2 g) (channelAt s ch)
 
@@ -149,7 +149,7 @@ module _ (g : FullBandSettings) (passed : settingsRefusal g ≡ accepted) where
   unfolding settingsRefusal
   few = few-channels (g .min) (g .«max_l») (g .«max_h») (g .«num_capture_channels») passed
 
-  started-kept : Kept g (started g)
+  pub started-kept : Kept g (started g)
   unfolding started
   started-kept =
       record {
@@ -159,12 +159,13 @@ module _ (g : FullBandSettings) (passed : settingsRefusal g ≡ accepted) where
             (fresh-kept (minLog2 g) (min-number g));
       }
 
-  updated-kept :
-      (s : FullBandErleEstimator) (channels : ℕ) (converged : List Bool) (render capture residual : List Float) → Kept g s
-      → updateRefusal s channels converged render capture residual ≡ accepted → Kept g (updated s converged render capture residual)
-  unfolding updated updateRefusal
-  updated-kept s channels converged render capture residual kept e =
-      let given = rw (kept .settings) at (update-ok (stateOk s) (s .settings .«num_capture_channels») channels converged render capture residual e) in
+  pub updated-kept :
+      (s : FullBandErleEstimator) (converged : List Bool) (render capture residual : List Float) → Kept g s
+      → UpdateOk (stateOk s) (s .settings .«num_capture_channels») converged render capture residual
+      → Kept g (updated s converged render capture residual)
+  unfolding updated
+  updated-kept s converged render capture residual kept ok =
+      let given = rw (kept .settings) at ok in
       let n = g .«num_capture_channels» in
       let next : ℕ → FullBandChannel = λ ch.
       channelAfter (minLog2 g) (getD converged ch false) render (part capture ch) (part residual ch) (channelAt s ch) in
@@ -180,10 +181,13 @@ module _ (g : FullBandSettings) (passed : settingsRefusal g ≡ accepted) where
       }
 
   answer-kept : (s : FullBandErleEstimator) (c : Call) → Kept g s → Kept g (answer s c .state)
-  unfolding answer updateAnswer resetAnswer
+  unfolding answer updateAnswer updateRefusal resetAnswer
   answer-kept s (update channels converged render capture residual) kept =
       let n = updateRefusal s channels converged render capture residual in
-      cond-has (Kept g) (eqb n accepted) (λ e. updated-kept s channels converged render capture residual kept (eqb-true n accepted e)) (λ e. kept)
+      let count = s .settings .«num_capture_channels» in
+      cond-has (Kept g) (eqb n accepted)
+      (λ e. updated-kept s converged render capture residual kept (update-ok (stateOk s) count channels converged render capture residual (eqb-true n accepted e)))
+      (λ e. kept)
   answer-kept s reset kept = cond-has (Kept g) (eqb (stateRefusal s) accepted) (λ e. rw (kept .settings) started-kept) (λ e. kept)
 
   run-kept : (calls : List Call) → Kept g (run (startAnswer g .state) calls)
@@ -204,7 +208,7 @@ channel-ok c kept =
       points-within n (sums .few) (sums .residual),
     )
 
-state-ok : (g : FullBandSettings) (s : FullBandErleEstimator) → settingsRefusal g ≡ accepted → Kept g s → stateOk s ≡ true
+pub state-ok : (g : FullBandSettings) (s : FullBandErleEstimator) → settingsRefusal g ≡ accepted → Kept g s → stateOk s ≡ true
 unfolding stateOk
 state-ok g s passed kept =
     rw (kept .settings, passed)

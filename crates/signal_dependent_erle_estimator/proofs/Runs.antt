@@ -34,7 +34,7 @@ same-as-itself zero xs = refl
 same-as-itself (suc n) xs = simp (same-as-itself n xs, eq-eqb (getD xs n 0) (getD xs n 0) refl)
 
 -- the settings of the start and their boundaries, and active sections below the section count
-record Kept (g : SignalDependentSettings) (s : SignalDependentErleEstimator) : Type 0 where
+pub record Kept (g : SignalDependentSettings) (s : SignalDependentErleEstimator) : Type 0 where
   settings : s .settings ≡ g
   boundaries : s .«section_boundaries_blocks» ≡ boundariesOf g
   channels : (ch : ℕ) → ch < g .«num_capture_channels» → channelOk (g .«num_sections») (channelAt s ch) ≡ true
@@ -48,7 +48,7 @@ module _ (g : SignalDependentSettings) (passed : settingsRefusal g ≡ accepted)
       let b : k < 65 = omega (arith, length-tab {A = ℕ} 65 (λ j. 0)) in
       rw (getD-tab {A = ℕ} 65 (λ j. 0) k 0 b) (lt-ltb 0 (g .«num_sections») (one-section g passed)))
 
-  started-kept : Kept g (started g)
+  pub started-kept : Kept g (started g)
   unfolding started
   started-kept =
       record {
@@ -68,7 +68,7 @@ module _ (g : SignalDependentSettings) (passed : settingsRefusal g ≡ accepted)
       subst (λ (m : ℕ). every (λ n. ltb n m) (activeOf s u ch) ≡ true) sections
       (active-within s u ch (omega (arith, sections, one-section g passed)))
 
-  updated-kept : (s : SignalDependentErleEstimator) (u : Update) → Kept g s → Kept g (updated s u)
+  pub updated-kept : (s : SignalDependentErleEstimator) (u : Update) → Kept g s → Kept g (updated s u)
   unfolding updated
   updated-kept s u kept =
       let next : ℕ → SignalDependentChannel = λ ch.
@@ -97,7 +97,7 @@ module _ (g : SignalDependentSettings) (passed : settingsRefusal g ≡ accepted)
   unfolding run startAnswer
   run-kept calls = run-keeps (Kept g) (λ s c. answer s c .state) answer-kept calls _ (rw passed started-kept)
 
-  state-ok : (s : SignalDependentErleEstimator) → Kept g s → stateOk s ≡ true
+  pub state-ok : (s : SignalDependentErleEstimator) → Kept g s → stateOk s ≡ true
   unfolding stateOk
   state-ok s kept =
       rw (kept .settings, kept .boundaries, passed)
@@ -112,7 +112,7 @@ module _ (g : SignalDependentSettings) (passed : settingsRefusal g ≡ accepted)
 chain-not-20 : (t : Bool) (n later : ℕ) → (n ≡ 20 → ⊥) → (later ≡ 20 → ⊥) → unless t n later ≡ 20 → ⊥
 chain-not-20 t n later here on = cond-has (λ m. m ≡ 20 → ⊥) t (λ q. on) (λ q. here)
 
-update-not-20 : (g : SignalDependentSettings) (u : Update) → refusalOf true g u ≡ badState → ⊥
+pub update-not-20 : (g : SignalDependentSettings) (u : Update) → refusalOf true g u ≡ badState → ⊥
 unfolding refusalOf ringRefusal
 update-not-20 g u =
     let headroom = headroomBlocks (g .«delay_headroom_samples») in

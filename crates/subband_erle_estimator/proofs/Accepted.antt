@@ -1,52 +1,31 @@
--- No state of a run is turned away under 20: after n of at most 6 points a sum is at most n times 2^100.
+-- No state of a run is turned away under 20: its sums pass.
 use mathlib.Core.Path.{_≡_}
 use mathlib.Core.Bool.{true}
-use mathlib.Core.List.{List}
-use Prim.Native.Nat.{ℕ, _*_, _^_, _≤_, _<_}
-use native.Mathlib.Nat.{le-trans, mul-le-mul-right}
+use Prim.Native.Nat.{ℕ}
 use native.Mathlib.Omega.{arith}
-use borrow.Author.Tests.{le-leb}
-use lib.Dec.{lit≤}
-use lib.Ieee.{Float, nan}
-use lib.ListN.{length, getD}
-use Rattle.aec3_common.specs.Binary32.{greatestSum, within, sumsOk}
+use borrow.Author.Tests.{eqb-true}
+use lib.Dec.{eqb}
 use Rattle.aec3_common.specs.Calls.{Call, update, reset}
 use Rattle.aec3_common.specs.Refusal.{accepted, badState}
-use Rattle.aec3_common.proofs.Calls.{update-not-20}
-use Rattle.aec3_common.proofs.Every.{every-by, every-first}
-use Rattle.aec3_common.proofs.Numbers.{UpTo, up-to-within}
-use Rattle.subband_erle_estimator.specs.declared.settings.SubbandSettings.{SubbandSettings}
-use Rattle.subband_erle_estimator.specs.declared.channel.SubbandChannel.{SubbandChannel}
+use Rattle.aec3_common.proofs.Calls.{update-ok, update-not-20, run-keeps}
+use Rattle.aec3_common.proofs.Choices.{cond-has}
 use Rattle.subband_erle_estimator.specs.declared.SubbandErleEstimator.{SubbandErleEstimator}
-use Rattle.subband_erle_estimator.specs.Channel.{allPoints}
-use Rattle.subband_erle_estimator.specs.Subband.{settingsRefusal, channelOk, stateOk, updateRefusal, stateRefusal, startAnswer, resetAnswer, updateAnswer, noChannel}
+use Rattle.subband_erle_estimator.specs.Subband.{stateOk, updateRefusal, stateRefusal, startAnswer, resetAnswer, updateAnswer}
 use Rattle.subband_erle_estimator.specs.Resting.{answer, run}
 use Rattle.subband_erle_estimator.specs.Accepted.{NeverBadState}
-use Rattle.subband_erle_estimator.proofs.Channels.{ChannelKept}
-use Rattle.subband_erle_estimator.proofs.Calls.{settings-ok, Kept, start-answer-kept, run-kept}
+use Rattle.subband_erle_estimator.proofs.Sums.{SumsKept, started-sums, updated-sums, state-ok}
 
--- the sums of up to six points
-sums-ok : (n : ℕ) (xs : List Float) → n ≤ 6 → length xs ≡ 65 → ((k : ℕ) → k < 65 → UpTo (n * 2 ^ 100) (getD xs k nan)) → sumsOk xs ≡ true
-sums-ok n xs few long each =
-    every-by (within greatestSum) xs nan
-    (λ k h. up-to-within (each k (omega arith)) (le-trans (mul-le-mul-right (2 ^ 100) few) (lit≤ tt)))
-
-channel-ok : (s : SubbandSettings) (c : SubbandChannel) → ChannelKept s c → channelOk c ≡ true
-unfolding channelOk
-channel-ok s c kept =
-    let n = c .«num_points» in
-    simp (
-      le-leb n allPoints (kept .points),
-      sums-ok n (c .y2) (kept .points) (kept .longCapture) (λ k h. kept .core k h .capture),
-      sums-ok n (c .e2) (kept .points) (kept .longResidual) (λ k h. kept .core k h .residual),
-    )
-
-state-ok : (g : SubbandSettings) (s : SubbandErleEstimator) → settingsRefusal g ≡ accepted → Kept g s → stateOk s ≡ true
-unfolding stateOk
-state-ok g s e kept =
-    rw (kept .settings, e)
-    (every-first channelOk (g .«num_capture_channels») (s .channels) noChannel
-    (λ ch h. channel-ok g (getD (s .channels) ch noChannel) (kept .channels ch h)))
+answer-sums : (s : SubbandErleEstimator) (c : Call) → SumsKept s → SumsKept (answer s c .state)
+unfolding answer updateAnswer updateRefusal resetAnswer
+answer-sums s (update channels converged render capture residual) sums =
+    let n = updateRefusal s channels converged render capture residual in
+    let count = s .settings .«num_capture_channels» in
+    cond-has SumsKept (eqb n accepted)
+    (λ e.
+    updated-sums s converged render capture residual sums
+    (update-ok (stateOk s) count channels converged render capture residual (eqb-true n accepted e)))
+    (λ e. sums)
+answer-sums s reset sums = cond-has SumsKept (eqb (stateRefusal s) accepted) (λ e. started-sums (s .settings) (sums .settings)) (λ e. sums)
 
 answer-not-20 : (s : SubbandErleEstimator) (c : Call) → stateOk s ≡ true → answer s c .refused ≡ badState → ⊥
 unfolding answer updateAnswer updateRefusal resetAnswer stateRefusal
@@ -55,8 +34,7 @@ answer-not-20 s (update channels converged render capture residual) ok e =
 answer-not-20 s reset ok e = let never : _≡_ {A = ℕ} 0 20 = rw ok at e in omega arith
 
 pub never-bad-state : NeverBadState
-unfolding NeverBadState startAnswer
+unfolding NeverBadState startAnswer run
 never-bad-state g calls next inBinary32 e =
-    let ok = settings-ok g inBinary32 e in
     let s = run (startAnswer g .state) calls in
-    answer-not-20 s next (state-ok g s e (run-kept g ok calls (startAnswer g .state) (start-answer-kept g ok e)))
+    answer-not-20 s next (state-ok s (run-keeps SumsKept (λ t c. answer t c .state) answer-sums calls _ (rw e (started-sums g e))))

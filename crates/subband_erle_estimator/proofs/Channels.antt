@@ -7,20 +7,21 @@ use borrow.Author.Tests.{eqb-true, eqb-false, lt-ltb, le-ltb}
 use lib.Dec.{ltb, eqb, lit<, lit≤}
 use lib.IntN.{pos}
 use lib.Ieee.{Float, nan}
-use lib.ListN.{length, getD}
+use lib.ListN.{getD}
 use Rattle.aec3_common.specs.Binary32.{zero32}
 use Rattle.aec3_common.specs.Lists.{tab}
 use Rattle.aec3_common.specs.Spectra.{innerBand, shownBand}
 use Rattle.aec3_common.proofs.Bands.{shown-inner, inner-shown, shown-below}
 use Rattle.aec3_common.proofs.Choices.{and-right, and-false, cond-has}
 use Rattle.aec3_common.proofs.Numbers.{Value, no-sum}
-use Rattle.aec3_common.proofs.Tables.{length-tab, getD-tab}
+use Rattle.aec3_common.proofs.Tables.{getD-tab}
 use Rattle.filter_sections.specs.Subbands.{maxErle}
 use Rattle.erle_bands.specs.Band.{emptied, added, hasRatio, Onset, onsetLearnt, oneBlockLess}
 use Rattle.erle_bands.proofs.Range.{InOrder, min-between, uncapped-in-order, CoreKept, emptied-kept, added-kept, ratio-signed, learnt-kept, OnsetKept, onset-learnt-kept, one-block-less-kept}
 use Rattle.subband_erle_estimator.specs.declared.settings.SubbandSettings.{SubbandSettings}
 use Rattle.subband_erle_estimator.specs.declared.channel.SubbandChannel.{SubbandChannel}
 use Rattle.subband_erle_estimator.specs.Channel.{coreAt, onsetAt, Block, allPoints, pointsWith, fresh, heard, isNew, coreAfter, onsetAfter, channelAfter}
+use Rattle.subband_erle_estimator.proofs.Sums.{points-stay-few}
 
 -- ---- bands
 
@@ -57,8 +58,7 @@ pub record Copied (c : SubbandChannel) (k : ℕ) : Type 0 where
 abbrev pub AllInOrder : SubbandSettings → Type 0
 AllInOrder s = (k : ℕ) → InOrder (s .min) (maxOf s k)
 
--- What a channel keeps: at most six points, bands in range, onset values at the minimum, bands 0 and 64 as copies that wait,
--- and 65 sums of each kind.
+-- What a channel keeps: at most six points, bands in range, onset values at the minimum, bands 0 and 64 as copies that wait.
 pub record ChannelKept (s : SubbandSettings) (c : SubbandChannel) : Type 0 where
   pub points : c .«num_points» ≤ 6
   pub core : (k : ℕ) → k < 65 → CoreKept (c .«num_points») (s .min) (maxOf s k) (coreAt c k)
@@ -66,8 +66,6 @@ pub record ChannelKept (s : SubbandSettings) (c : SubbandChannel) : Type 0 where
   pub onsetMin : (k : ℕ) → k < 65 → onsetAt c k .onset ≡ s .min
   pub copied : (k : ℕ) → k < 65 → Copied c k
   pub outer : (k : ℕ) → k < 65 → innerBand k ≡ false → onsetAt c k .waits ≡ true
-  pub longCapture : length (c .y2) ≡ 65
-  pub longResidual : length (c .e2) ≡ 65
 
 pub fresh-kept : (s : SubbandSettings) → AllInOrder s → ChannelKept s (fresh (s .min))
 unfolding fresh
@@ -88,8 +86,6 @@ fresh-kept s limits =
       onsetMin = λ k h. getD-tab 65 (λ j. s .min) k nan h;
       copied = λ k h. record { plain = same k h; uncapped = same k h; compensated = same k h };
       outer = λ k h out. getD-tab 65 (λ j. true) k false h;
-      longCapture = length-tab 65 (λ j. zero32);
-      longResidual = length-tab 65 (λ j. zero32);
     }
   where
     same : (k : ℕ) → k < 65 → getD (tab 65 (λ j. s .min)) k nan ≡ getD (tab 65 (λ j. s .min)) (shownBand k) nan
@@ -121,14 +117,6 @@ module _ (s : SubbandSettings) (b : Block) (c : SubbandChannel) where
   outer-stays k out = rw (out, and-false (s .«onset_detection»))
 
   module _ (limits : AllInOrder s) (ok : BlockOk b) (kept : ChannelKept s c) where
-    points-few : points ≤ 6
-    points-few = go (b .converged) (eqb (c .«num_points») allPoints) refl
-      where
-        go : (conv full : Bool) → eqb (c .«num_points») 6 ≡ full → cond conv (suc (cond full 0 (c .«num_points»))) (c .«num_points») ≤ 6
-        go true true e = lit≤ tt
-        go true false e = omega (arith, kept .points, eqb-false (c .«num_points») 6 e)
-        go false full e = kept .points
-
     heard-kept : (k : ℕ) → k < 65 → CoreKept points (s .min) (maxOf s k) (heard s b c k)
     heard-kept k h = go (b .converged) (eqb (c .«num_points») allPoints) refl
       where
@@ -166,7 +154,7 @@ module _ (s : SubbandSettings) (b : Block) (c : SubbandChannel) where
     unfolding channelAfter
     after-kept =
         record {
-          points = points-few;
+          points = points-stay-few (b .converged) (c .«num_points») (kept .points);
           core = λ k h. record {
             capture = rw (getD-tab 65 (λ j. coreAfter s b c j .capture) k nan h) (core-kept k h .capture);
             residual = rw (getD-tab 65 (λ j. coreAfter s b c j .residual) k nan h) (core-kept k h .residual);
@@ -186,6 +174,4 @@ module _ (s : SubbandSettings) (b : Block) (c : SubbandChannel) where
           };
           outer = λ k h out.
               getD-tab 65 (λ j. onsetAfter s b c j .waits) k false h ∙ ap (λ (o : Onset). o .waits) (outer-stays k out) ∙ kept .outer k h out;
-          longCapture = length-tab 65 (λ k. coreAfter s b c k .capture);
-          longResidual = length-tab 65 (λ k. coreAfter s b c k .residual);
         }

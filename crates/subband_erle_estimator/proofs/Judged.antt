@@ -20,7 +20,7 @@ use Rattle.subband_erle_estimator.specs.Subband.{settingsRefusal, channe
 use Rattle.subband_erle_estimator.specs.Steps.{judgedChannels}
 
 -- settings that pass have at most four channels
-settings-few : (s : SubbandSettings) → eqb (settingsRefusal s) accepted ≡ true → s .«num_capture_channels» ≤ 4
+pub settings-few : (s : SubbandSettings) → eqb (settingsRefusal s) accepted ≡ true → s .«num_capture_channels» ≤ 4
 unfolding settingsRefusal
 settings-few s ok = few-channels (s .min) (s .«max_l») (s .«max_h») (s .«num_capture_channels») (eqb-true _ _ ok)
 

@@ -2,6 +2,7 @@ pub mod Judged
 pub mod Updates
 pub mod Records
 pub mod After
+pub mod Sums
 pub mod Channels
 pub mod Quiet
 pub mod Calls
