@@ -36,19 +36,19 @@ settingsForm st r =
     (unless (flagOk (onsetByte r) && bandOk (bandIn r)) badFlagOrBand
     accepted))
 
-unfoldable pub blockForm : Standing → List ℕ → ℕ
-blockForm st r =
+-- a record that needs settings before it, of the right length and with good flags
+abbrev pub underSettings : Standing → Bool → Bool → ℕ
+underSettings st long flags =
     unless (stands st) noSettings
-    (unless (eqb (length r) (blockLength (st .«num_capture_channels»))) badRecordLength
-    (unless (flagsOk (st .«num_capture_channels») r) badFlagOrBand
+    (unless long badRecordLength
+    (unless flags badFlagOrBand
     accepted))
 
+unfoldable pub blockForm : Standing → List ℕ → ℕ
+blockForm st r = underSettings st (eqb (length r) (blockLength (st .«num_capture_channels»))) (flagsOk (st .«num_capture_channels») r)
+
 unfoldable pub resetForm : Standing → List ℕ → ℕ
-resetForm st r =
-    unless (stands st) noSettings
-    (unless (eqb (length r) resetLength) badRecordLength
-    (unless (flagOk (delayByte r)) badFlagOrBand
-    accepted))
+resetForm st r = underSettings st (eqb (length r) resetLength) (flagOk (delayByte r))
 
 unfoldable pub formRefusal : Standing → List ℕ → ℕ
 formRefusal st r = byKind (kindOf r) (settingsForm st r) (blockForm st r) (resetForm st r) unknownKind

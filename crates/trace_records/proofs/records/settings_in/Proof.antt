@@ -5,7 +5,14 @@ use Rattle.trace_records.proofs.records.settings_in.Tie as tie
 
 returns : tie.Need-returns
 unfolding settingsIn
-returns c = cc
+returns c =
+    rw (
+      c .before .before .before .before .value-at .ensures,
+      c .before .before .before .value-at2 .ensures,
+      c .before .before .value-at3 .ensures,
+      c .before .flag-at .ensures,
+      c .byte-at .ensures .0,
+    )
 
 pub settings-in-spec : {M : Type 1} → statement M
 settings-in-spec =
