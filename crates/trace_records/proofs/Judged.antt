@@ -2,17 +2,16 @@
 use mathlib.Core.Path.{_≡_, refl, sym, ap, _∙_}
 use mathlib.Core.Bool.{Bool, true, false, not, cond, _&&_}
 use mathlib.Core.List.{List}
-use Prim.Native.Nat.{ℕ, zero, suc, _≤_}
+use Prim.Native.Nat.{ℕ, suc, _≤_}
 use native.Mathlib.Omega.{arith}
 use borrow.Author.Tests.{eq-eqb, ne-eqb, eqb-true, leb-true, not-true}
-use lib.Dec.{eqb, leb}
+use lib.Dec.{eqb}
 use lib.ListN.{length}
-use Rattle.aec3_common.specs.Refusal.{unless, firstOf, accepted, badRecordLength, badFlagOrBand}
-use Rattle.aec3_common.specs.Settings.{sectionsOk, sectionedSettingsRefusal, settingsRefusal}
-use Rattle.aec3_common.proofs.Choices.{and-left, and-right, passed, later-passed}
+use Rattle.aec3_common.specs.Refusal.{unless, accepted, badRecordLength, badFlagOrBand}
+use Rattle.aec3_common.proofs.Choices.{and-left, and-right}
 use Rattle.aec3_common.proofs.Ranges.{from-lo, to-hi}
 use Rattle.trace_records.specs.declared.judge.Standing.{Standing}
-use Rattle.trace_records.specs.Records.{kindOf, settingsKind, blockKind, resetKind, byKind, settingsLength, blockLength, resetLength, onsetByte, settingsIn, bandIn, delayByte}
+use Rattle.trace_records.specs.Records.{kindOf, settingsKind, blockKind, resetKind, byKind, settingsLength, blockLength, resetLength, onsetByte, bandIn, delayByte}
 use Rattle.trace_records.specs.Judge.{stands, flagOk, bandOk, flagsOk, settingsForm, blockForm, resetForm, formRefusal, settingsValues, blockValues, valueRefusal, recordRefusal}
 
 -- ---- kinds
@@ -63,15 +62,6 @@ module _ (st : Standing) (r : List ℕ) where
       same : (t : Bool) → cond {A = ℕ} t accepted accepted ≡ accepted
       same true = refl
       same false = refl
-
--- the settings that a record holds have one section, so that a start judges them by the same numbers
-pub settings-refused : (r : List ℕ) → settingsRefusal (settingsIn r) ≡ settingsValues r
-unfolding settingsRefusal sectionedSettingsRefusal sectionsOk settingsValues settingsIn
-settings-refused r = first-alone (settingsValues r)
-  where
-    first-alone : (n : ℕ) → firstOf n accepted ≡ n
-    first-alone zero = refl
-    first-alone (suc n) = rw (ne-eqb (suc n) accepted (λ e. omega arith))
 
 -- ---- a record in form, of each kind
 

@@ -4,14 +4,14 @@ use mathlib.Core.Bool.{Bool, true, false, cond, _&&_}
 use mathlib.Core.List.{List}
 use Prim.Native.Nat.{ℕ, _+_, _-_, _*_, _/_, _%_, _≤_, _<_}
 use native.Mathlib.Omega.{arith}
-use borrow.Author.Tests.{lt-ltb, le-ltb, le-leb, lt-leb, ltb-true, ltb-false, leb-true, leb-false}
+use borrow.Author.Tests.{lt-ltb, le-ltb, le-leb, lt-leb, ltb-true, ltb-false}
 use lib.Dec.{leb, ltb}
 use lib.Ieee.{Float, nan, binary32, ofBits}
 use lib.ListN.{length, getD, set, List·getD-eq-default}
 use Rattle.aec3_common.specs.Binary32.{zero32}
 use Rattle.aec3_common.specs.Lists.{tab}
 use Rattle.aec3_common.proofs.Choices.{cond-by}
-use Rattle.aec3_common.proofs.Tables.{length-tab, getD-tab, tab-is, tab-same, Stored, stored-none, stored-more, stored-between}
+use Rattle.aec3_common.proofs.Tables.{length-tab, getD-tab, tab-is, Stored, stored-none, stored-more, stored-between}
 use Rattle.encoding.specs.Bytes.{byteAt, halfAt, wordAt}
 use Rattle.trace_records.specs.Records.{valueAt, spectrumAt, spectraAt, inTable, withSpectrum}
 

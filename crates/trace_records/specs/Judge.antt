@@ -1,4 +1,4 @@
--- Which number turns a record away, or 0: 11, then 22 or 23, 12, 13, and then what its numbers are, 1, 2 or 6.
+-- Which number turns a whole record away, or 0: the first of 11, 22 or 23, 12 and 13 for its form, then of 1, 2 and 6 for its values.
 use Prim.Native.Nat.{ℕ}
 use mathlib.Core.Bool.{Bool, not, _&&_}
 use mathlib.Core.List.{List}
@@ -11,7 +11,7 @@ use Rattle.aec3_common.specs.Settings.{captureChannelsOk, limitsAndChannelsRefu
 use Rattle.trace_records.specs.declared.judge.Standing.{Standing}
 use Rattle.trace_records.specs.Records.{kindOf, byKind, settingsLength, blockLength, resetLength, onsetByte, settingsIn, bandIn, delayByte, convergedByte, renderIn, captureIn, residualIn}
 
--- settings stand where there are channels; before them there are none
+-- settings stand where there are channels: accepted ones have one to four, and before them there are none
 abbrev pub stands : Standing → Bool
 stands st = captureChannelsOk (st .«num_capture_channels»)
 

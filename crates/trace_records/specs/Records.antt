@@ -105,7 +105,8 @@ renderPlace n = 2 + n
 unfoldable pub renderIn : ℕ → List ℕ → List Float
 renderIn n r = spectrumAt r (renderPlace n)
 
--- one spectrum of each of n channels, channel by channel: channel 0's is at place i, and from channel to channel there are two
+-- One spectrum of each of n channels, channel by channel. Channel 0's is at place i. Each channel has two in the record, so that
+-- the next channel's is 520 bytes on.
 unfoldable pub spectraAt : ℕ → List ℕ → ℕ → List Float
 spectraAt n r i = tab (n * 65) (λ k. valueAt r (i + k / 65 * 520 + 4 * (k % 65)))
 

@@ -92,7 +92,7 @@ pub fn delay_changed_in(record: &[u8]) -> bool
     flag_at(record, 2)
 }
 
-// The L of a block.
+// The L of a block, for a count of channels that is in its range.
 pub fn block_length(num_capture_channels: usize) -> usize
     requires { ⌜ «num_capture_channels» ≤ 4 ⌝ }
     ensures { λ r. ⌜ r ≡ blockLength «num_capture_channels» ⌝ }
@@ -100,7 +100,7 @@ pub fn block_length(num_capture_channels: usize) -> usize
     262 + 521 * num_capture_channels
 }
 
-// The converged flags.
+// The converged flags in a table.
 fn flags_in(record: &[u8], num_capture_channels: usize) -> [bool; 4]
     requires { ⌜ «num_capture_channels» ≤ 4 ⌝ }
     ensures { λ r. ⌜ r ≡ inTable 4 false (flagsIn «num_capture_channels» (now («record» .entry))) ⌝ }
