@@ -1,0 +1,5 @@
+pub mod ByKind
+pub mod Judged
+pub mod Lines
+pub mod Stepping
+pub mod Running
