@@ -6,8 +6,10 @@ pub mod steps;
 
 use erle_estimator::ErleEstimator;
 pub use listing::Listed;
+pub use listing::list_trace;
 pub use steps::Stepped;
 pub use steps::beginning;
+pub use steps::put_bad_frame;
 pub use steps::step;
 
 // The estimator, before settings that of a refused start; the printed band; the blocks of the whole trace so far, and the records.

@@ -4,6 +4,7 @@ use crate::answers::answer_to;
 use crate::rows::put_rows;
 use aec3_common::counts::one_more;
 use aec3_common::refusal::ACCEPTED;
+use aec3_common::refusal::BAD_FRAME;
 use erle_estimator::ErleEstimator;
 use erle_estimator::ErleSettings;
 use trace_records::Standing;
@@ -17,9 +18,11 @@ ghost use mathlib.Core.Path.{_≡_};
 ghost use Prim.Native.Nat.{_+_, _≤_};
 ghost use lib.Dec.{leb};
 ghost use lib.ListN.{length};
-ghost use Rattle.encoding.specs.Text.{laid};
+ghost use Rattle.aec3_common.specs.Counts.{oneMore};
+ghost use Rattle.aec3_common.specs.Refusal.{badFrame};
+ghost use Rattle.encoding.specs.Text.{laid, written, after};
 ghost use Rattle.trace_records.specs.Records.{kindOf, blockKind};
-ghost use Rattle.trace_text.specs.Text.{lines};
+ghost use Rattle.trace_text.specs.Text.{refused, line, lines};
 ghost use Rattle.trace.specs.Apply.{beginning as Apply·beginning, channelsOf, bandAfter, blocksAfter, rowsIf};
 ghost use Rattle.trace.specs.Steps.{RefusedBy, stepAnswer, stepOver};
 
@@ -124,6 +127,14 @@ fn refuse(t: Trace, refused: u32, out: &mut [u8], at: usize) -> Stepped
         refused,
         fits: true,
     }
+}
+
+// The line of bytes that are no whole record, behind so many records.
+pub fn put_bad_frame(out: &mut [u8], at: usize, records: u32) -> usize
+    ensures { λ _. ⌜ now (out .exit) ≡ written (now (out .entry)) at (line (refused badFrame (oneMore records))) ⌝ }
+    ensures { λ r. ⌜ r ≡ after (now (out .entry)) at (line (refused badFrame (oneMore records))) ⌝ }
+{
+    put_refused(out, at, BAD_FRAME, one_more(records))
 }
 
 // One record: its lines from a place on, and the next state; or, if it is refused, the line that says so, and the state as it was.
