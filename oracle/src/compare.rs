@@ -1,6 +1,6 @@
-//! Compares the lines of the replay programs with those of the published Rust.
+//! Compares the lines of the programs with those of the published Rust.
 
-use crate::lines::{fields, Lines};
+use crate::lines::fields;
 use crate::program::Program;
 use crate::run::Run;
 use crate::scripts::{Name, NAMES};
@@ -40,7 +40,8 @@ fn compare_all(name: &Name, file: &str) -> Result<String, String> {
                 difference
             } else {
                 format!(
-                    "script {} (oracle generate {} {0})\n{difference}",
+                    "{} {} (oracle generate {} {1})\n{difference}",
+                    name.program.input(),
                     at + 1,
                     name.name
                 )
@@ -49,7 +50,7 @@ fn compare_all(name: &Name, file: &str) -> Result<String, String> {
     }
     Ok(match count {
         1 => format!("{records} records"),
-        many => format!("{many} scripts, {records} records"),
+        many => format!("{many} {}s, {records} records", name.program.input()),
     })
 }
 
@@ -59,22 +60,22 @@ fn compare_one(name: &Name, script: &[u8], file: &str) -> Result<usize, String> 
     let run = || Run::showing(name.program, name.state, script);
     let (lines, records) = run().finish();
     let words: &[&str] = if name.state { &["state"] } else { &[] };
-    let replayed = replay_script(file, words, script)
+    let done = run_program(file, words, script)
         .map_err(|error| format!("{file} does not run: {error}"))?;
     let record = |line| record_of_line(run(), line);
-    if let Some(difference) = first_difference(lines.as_bytes(), &replayed.stdout, record) {
+    if let Some(difference) = first_difference(lines.as_bytes(), &done.stdout, record) {
         Err(difference)
-    } else if !replayed.status.success() {
-        Err(format!("same lines, but {file}: {}", replayed.status))
+    } else if !done.status.success() {
+        Err(format!("same lines, but {file}: {}", done.status))
     } else {
         Ok(records)
     }
 }
 
-/// Runs a replay program, with some words, on a script. Its input is written from a thread of
-/// its own, as it may print before it has read everything, or end without
+/// Runs a program, with some words, on a script. Its input is written from a thread
+/// of its own, as it may print before it has read everything, or end without
 /// reading the rest; a failed write therefore counts for nothing.
-fn replay_script(file: &str, words: &[&str], script: &[u8]) -> io::Result<Output> {
+fn run_program(file: &str, words: &[&str], script: &[u8]) -> io::Result<Output> {
     let mut child = Command::new(file)
         .args(words)
         .stdin(Stdio::piped())
@@ -106,7 +107,7 @@ fn first_difference(
             (Some(wanted), Some(given)) if same_line(wanted, given) => (),
             (wanted, given) => {
                 return Some(format!(
-                    "line {number}\n  Rust:   {}\n  replay: {}\n  {}",
+                    "line {number}\n  Rust:    {}\n  program: {}\n  {}",
                     shown_line(wanted),
                     shown_line(given),
                     record(number)
@@ -147,7 +148,7 @@ fn shown_line(line: Option<&[u8]>) -> String {
 
 /// The record that gives a line, found by running the script again.
 fn record_of_line(mut run: Run<'_>, line: usize) -> String {
-    let mut lines = Lines::default();
+    let mut lines = run.header();
     let mut records = 0;
     while let Some(bytes) = run.step(&mut lines) {
         records += 1;

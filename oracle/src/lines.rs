@@ -77,6 +77,11 @@ impl Lines {
         self.end();
     }
 
+    /// Forgets the lines, which have been written.
+    pub fn clear(&mut self) {
+        self.text.clear();
+    }
+
     pub fn count(&self) -> usize {
         self.count
     }

@@ -1,5 +1,5 @@
-//! The oracle: runs scripts of library calls through the published Rust and
-//! compares its lines with those of the replay programs.
+//! The oracle: runs scripts of library calls, and traces, through the published
+//! Rust and compares its lines with those of the programs.
 
 mod compare;
 mod judge;
@@ -11,8 +11,10 @@ mod run;
 mod scripts;
 #[cfg(port)]
 mod speed;
+mod speed_trace;
 #[cfg(test)]
 mod tests;
+mod trace;
 
 // The published modules `api` and `audio_processing`, see build.rs.
 include!(concat!(env!("OUT_DIR"), "/published.rs"));
@@ -20,17 +22,21 @@ include!(concat!(env!("OUT_DIR"), "/published.rs"));
 use program::Program;
 use std::env;
 use std::fs;
-use std::io::{self, Read, Write};
+use std::io::{self, BufWriter, Read, Write};
 use std::path::Path;
 use std::process::ExitCode;
 
 const USAGE: &str = "usage:
   oracle run PROGRAM [state] < script > lines
+  oracle list < trace > listing
   oracle generate NAME [NUMBER] > script
-  oracle compare [REPLAY [REPLAY_PARTS]]
+  oracle trace NAME [NUMBER] > trace
+  oracle trace big MEGABYTES CHANNELS > trace
+  oracle compare [REPLAY [REPLAY_PARTS [TRACE_PRINTER]]]
   oracle samples PROGRAM DIR
   oracle speed
-where PROGRAM is replay or replay_parts";
+  oracle speed_trace MEGABYTES CHANNELS [TRACE_PRINTER]
+where PROGRAM is replay, replay_parts or trace_printer; of trace_lister there are samples";
 
 fn main() -> ExitCode {
     let arguments: Vec<String> = env::args().skip(1).collect();
@@ -38,11 +44,19 @@ fn main() -> ExitCode {
     let done = match words[..] {
         ["run", program] => run_script(program, false),
         ["run", program, "state"] => run_script(program, true),
+        ["list"] => list_trace(),
         ["generate", name] => generate(name, None),
         ["generate", name, number] => generate(name, Some(number)),
+        ["trace", "big", megabytes, channels] => big_trace(megabytes, channels),
+        ["trace", name] => generate(&trace_name(name), None),
+        ["trace", name, number] => generate(&trace_name(name), Some(number)),
         ["compare", ref files @ ..] if files.len() <= Program::ALL.len() => compare_with(files),
         ["samples", program, folder] => write_samples(program, Path::new(folder)),
         ["speed"] => speed(),
+        ["speed_trace", megabytes, channels] => {
+            speed_trace(megabytes, channels, &built(Program::TracePrinter))
+        }
+        ["speed_trace", megabytes, channels, file] => speed_trace(megabytes, channels, file),
         _ => Err(USAGE.to_string()),
     };
     match done {
@@ -61,6 +75,12 @@ fn run_script(program: &str, state: bool) -> Result<ExitCode, String> {
     io::stdin().read_to_end(&mut script).map_err(plain)?;
     let (lines, _) = run::Run::showing(program, state, &script).finish();
     print_bytes(lines.as_bytes())
+}
+
+/// Lists a trace.
+fn list_trace() -> Result<ExitCode, String> {
+    trace::stream::list(io::stdin().lock(), io::stdout().lock()).map_err(plain)?;
+    Ok(ExitCode::SUCCESS)
 }
 
 fn known(program: &str) -> Result<Program, String> {
@@ -86,10 +106,29 @@ fn generate(name: &str, number: Option<&str>) -> Result<ExitCode, String> {
     }
 }
 
+/// The name under which the traces of a name are generated.
+fn trace_name(name: &str) -> String {
+    format!("trace_{name}")
+}
+
+/// Prints a trace of a size and a number of channels.
+fn big_trace(megabytes: &str, channels: &str) -> Result<ExitCode, String> {
+    let (megabytes, channels) = size_of_trace(megabytes, channels)?;
+    let output = BufWriter::new(io::stdout().lock());
+    scripts::trace::big::write(megabytes, channels, output).map_err(plain)?;
+    Ok(ExitCode::SUCCESS)
+}
+
+fn size_of_trace(megabytes: &str, channels: &str) -> Result<(u64, u8), String> {
+    let size = megabytes.parse().ok().zip(channels.parse().ok());
+    size.filter(|&(_, channels)| judge::CAPTURE_CHANNELS.contains(&u32::from(channels)))
+        .ok_or_else(|| USAGE.to_string())
+}
+
 /// Compares with the programs in these files; one whose file is not said is
 /// sought where it is built.
 fn compare_with(files: &[&str]) -> Result<ExitCode, String> {
-    let built = Program::ALL.map(|program| format!("target/bin/{}", program.name()));
+    let built = Program::ALL.map(built);
     let said = |program: Program| match files.get(program as usize) {
         Some(file) => file,
         None => &built[program as usize][..],
@@ -101,15 +140,29 @@ fn compare_with(files: &[&str]) -> Result<ExitCode, String> {
     }
 }
 
-/// Writes a program's stored sample, a script and its lines.
+/// Where a program is built.
+fn built(program: Program) -> String {
+    format!("target/bin/{}", program.name())
+}
+
+/// Writes a program's stored sample, its input and its lines.
 fn write_samples(program: &str, folder: &Path) -> Result<ExitCode, String> {
-    let program = known(program)?;
-    let script = scripts::stored_sample(program).bytes;
-    let (lines, _) = run::run(program, &script);
+    let (input, lines) = sample(program)?;
     fs::create_dir_all(folder).map_err(plain)?;
-    fs::write(folder.join("stdin"), &script).map_err(plain)?;
-    fs::write(folder.join("stdout"), lines.as_bytes()).map_err(plain)?;
+    fs::write(folder.join("stdin"), input).map_err(plain)?;
+    fs::write(folder.join("stdout"), lines).map_err(plain)?;
     Ok(ExitCode::SUCCESS)
+}
+
+/// The input and the lines of a program's stored sample.
+fn sample(program: &str) -> Result<(Vec<u8>, Vec<u8>), String> {
+    if program == "trace_lister" {
+        return Ok(scripts::trace::stored::packed());
+    }
+    let program = known(program)?;
+    let input = scripts::stored_sample(program).bytes;
+    let (lines, _) = run::run(program, &input);
+    Ok((input, lines.as_bytes().to_vec()))
 }
 
 #[cfg(port)]
@@ -123,6 +176,13 @@ fn speed() -> Result<ExitCode, String> {
         "built without the port: set PORT_LIBRARY to the folder of libspeed.a and build"
             .to_string(),
     )
+}
+
+/// Measures the listing of a trace of a size and a number of channels.
+fn speed_trace(megabytes: &str, channels: &str, file: &str) -> Result<ExitCode, String> {
+    let (megabytes, channels) = size_of_trace(megabytes, channels)?;
+    speed_trace::speed(megabytes, channels, file)?;
+    Ok(ExitCode::SUCCESS)
 }
 
 fn print_bytes(bytes: &[u8]) -> Result<ExitCode, String> {

@@ -1,4 +1,4 @@
-//! The test programs of the port whose lines are compared.
+//! The programs of the port whose lines are compared.
 
 #[derive(Debug, Clone, Copy, PartialEq, Eq)]
 pub enum Program {
@@ -6,15 +6,26 @@ pub enum Program {
     Replay,
     /// The parts of the ERLE estimator, each alone.
     ReplayParts,
+    /// The listing of a trace.
+    TracePrinter,
 }
 
 impl Program {
-    pub const ALL: [Self; 2] = [Self::Replay, Self::ReplayParts];
+    pub const ALL: [Self; 3] = [Self::Replay, Self::ReplayParts, Self::TracePrinter];
 
     pub fn name(self) -> &'static str {
         match self {
             Self::Replay => "replay",
             Self::ReplayParts => "replay_parts",
+            Self::TracePrinter => "trace_printer",
+        }
+    }
+
+    /// What its input is called.
+    pub fn input(self) -> &'static str {
+        match self {
+            Self::Replay | Self::ReplayParts => "script",
+            Self::TracePrinter => "trace",
         }
     }
 

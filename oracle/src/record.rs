@@ -1,5 +1,7 @@
 //! Records of a script: their framing, and the fields of their bodies.
 
+use std::ops::RangeInclusive;
+
 /// The greatest length of a record that is read; no good script has a longer one.
 pub const MAX_LENGTH: u32 = 131_072;
 
@@ -14,8 +16,16 @@ pub struct Record<'a> {
 
 /// Takes the first record off a script.
 pub fn take_record<'a>(script: &mut &'a [u8]) -> Result<Record<'a>, Malformed> {
+    take_record_of(2..=MAX_LENGTH, script)
+}
+
+/// Takes the first record, of one of these lengths.
+pub fn take_record_of<'a>(
+    lengths: RangeInclusive<u32>,
+    script: &mut &'a [u8],
+) -> Result<Record<'a>, Malformed> {
     let length = u32::from_le_bytes(take_array(script)?);
-    if !(2..=MAX_LENGTH).contains(&length) {
+    if !lengths.contains(&length) {
         return Err(Malformed);
     }
     let mut content = take(script, length as usize)?;

@@ -1,39 +1,60 @@
-//! Runs a program's script through the published Rust.
+//! Runs the input of a program through the published Rust.
 
 use crate::kinds::Groups;
 use crate::lines::Lines;
 use crate::program::Program;
-use crate::record::take_record;
+use crate::trace::listing::{self, Listing};
 
-/// A run over a script, record by record.
+/// A run over a script or a trace, record by record.
 pub struct Run<'a> {
     rest: &'a [u8],
-    groups: Groups,
+    answers: Answers,
+}
+
+/// What gives the lines of a record.
+enum Answers {
+    Script(Box<Groups>),
+    Trace(Box<Listing>),
 }
 
 impl<'a> Run<'a> {
-    pub fn new(program: Program, script: &'a [u8]) -> Self {
-        Self::showing(program, false, script)
+    pub fn new(program: Program, input: &'a [u8]) -> Self {
+        Self::showing(program, false, input)
     }
 
     /// A run that shows what the whole ERLE estimator holds, if asked for.
-    pub fn showing(program: Program, state: bool, script: &'a [u8]) -> Self {
+    pub fn showing(program: Program, state: bool, input: &'a [u8]) -> Self {
+        let answers = match program {
+            Program::Replay => Answers::Script(Box::new(Groups::replay(state))),
+            Program::ReplayParts => Answers::Script(Box::new(Groups::replay_parts())),
+            Program::TracePrinter => Answers::Trace(Box::default()),
+        };
         Self {
-            rest: script,
-            groups: Groups::new(program, state),
+            rest: input,
+            answers,
         }
     }
 
-    /// Runs the next record and gives its bytes; none at the script's end. A
-    /// malformed record takes all that is left, and the run ends with it.
+    /// The lines before those of the first record.
+    pub fn header(&self) -> Lines {
+        match self.answers {
+            Answers::Script(_) => Lines::default(),
+            Answers::Trace(_) => listing::header(),
+        }
+    }
+
+    /// Runs the next record and gives its bytes; none at the input's end. A bad
+    /// record takes all that is left, and the run ends with it.
     pub fn step(&mut self, lines: &mut Lines) -> Option<&'a [u8]> {
         let here = self.rest;
         if here.is_empty() {
             return None;
         }
-        let record = take_record(&mut self.rest);
-        if record.and_then(|r| self.groups.answer(&r, lines)).is_err() {
-            lines.push(format_args!("bad"));
+        let goes_on = match &mut self.answers {
+            Answers::Script(groups) => groups.step(&mut self.rest, lines),
+            Answers::Trace(listing) => listing.step(&mut self.rest, lines).is_ok(),
+        };
+        if !goes_on {
             self.rest = &[];
         }
         Some(&here[..here.len() - self.rest.len()])
@@ -41,7 +62,7 @@ impl<'a> Run<'a> {
 
     /// The lines of all that is left, and how many records gave them.
     pub fn finish(mut self) -> (Lines, usize) {
-        let mut lines = Lines::default();
+        let mut lines = self.header();
         let mut records = 0;
         while self.step(&mut lines).is_some() {
             records += 1;
@@ -50,7 +71,7 @@ impl<'a> Run<'a> {
     }
 }
 
-/// The lines of a whole script, and how many records gave them.
-pub fn run(program: Program, script: &[u8]) -> (Lines, usize) {
-    Run::new(program, script).finish()
+/// The lines of a whole input, and how many records gave them.
+pub fn run(program: Program, input: &[u8]) -> (Lines, usize) {
+    Run::new(program, input).finish()
 }

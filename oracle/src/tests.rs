@@ -8,6 +8,7 @@ mod erle;
 mod fullband;
 mod signal;
 mod subband;
+mod trace;
 
 use crate::audio_processing::aec3::signal_dependent_erle_estimator::{
     peek_section_boundaries, peek_section_sizes, peek_subband_map, peek_subband_maxima,
@@ -230,6 +231,7 @@ fn the_samples_are_small() {
     for (program, script_bytes, line_bytes) in [
         (Program::Replay, 700_000, 750_000),
         (Program::ReplayParts, 350_000, 1_500_000),
+        (Program::TracePrinter, 5_000, 300),
     ] {
         let script = stored_sample(program);
         assert!(script.bytes.len() <= script_bytes);

@@ -14,8 +14,7 @@ pub mod subband;
 
 use crate::judge::Judged;
 use crate::lines::{Answer, Lines};
-use crate::program::Program;
-use crate::record::{Malformed, Record};
+use crate::record::{take_record, Malformed, Record};
 use erl::Erl;
 use erle::Erle;
 use fullband::FullBand;
@@ -40,24 +39,39 @@ pub enum Groups {
 }
 
 impl Groups {
-    /// The whole ERLE estimator's state is shown if asked for.
-    pub fn new(program: Program, state_shown: bool) -> Self {
-        match program {
-            Program::Replay => Self::Replay {
-                leaves: Leaves::new(),
-                erl: Erl::default(),
-                erle: Box::new(Standing::new(state_shown)),
-                signal: Box::default(),
-            },
-            Program::ReplayParts => Self::ReplayParts {
-                subband: Standing::default(),
-                fullband: Standing::default(),
-            },
+    /// Those of `replay`. The whole ERLE estimator's state is shown if asked for.
+    pub fn replay(state_shown: bool) -> Self {
+        Self::Replay {
+            leaves: Leaves::new(),
+            erl: Erl::default(),
+            erle: Box::new(Standing::new(state_shown)),
+            signal: Box::default(),
         }
     }
 
+    /// Those of `replay_parts`.
+    pub fn replay_parts() -> Self {
+        Self::ReplayParts {
+            subband: Standing::default(),
+            fullband: Standing::default(),
+        }
+    }
+
+    /// Takes the first record off a script and answers it. Tells whether the run
+    /// goes on.
+    pub fn step(&mut self, script: &mut &[u8], lines: &mut Lines) -> bool {
+        let record = take_record(script);
+        let answered = record
+            .and_then(|record| self.answer(&record, lines))
+            .is_ok();
+        if !answered {
+            lines.push(format_args!("bad"));
+        }
+        answered
+    }
+
     /// Answers one record. A malformed record prints nothing here.
-    pub fn answer(&mut self, record: &Record<'_>, lines: &mut Lines) -> Result<(), Malformed> {
+    fn answer(&mut self, record: &Record<'_>, lines: &mut Lines) -> Result<(), Malformed> {
         match self {
             Self::Replay {
                 leaves,

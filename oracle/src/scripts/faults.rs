@@ -14,7 +14,7 @@ pub trait Lends: Clone {
 
 /// Patterns of values out of range: NaNs of both signs, infinities, numbers
 /// above 2^100 and below 0.
-const BAD: [u32; 13] = [
+pub const BAD: [u32; 13] = [
     0x7FC0_0000,
     0xFFC0_0000,
     0x7F80_0001,

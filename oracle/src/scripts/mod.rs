@@ -16,6 +16,7 @@ pub mod signal;
 pub mod spectra;
 pub mod subband;
 pub mod sums;
+pub mod trace;
 mod walk;
 
 use crate::kinds;
@@ -62,7 +63,7 @@ impl Name {
     }
 }
 
-pub const NAMES: [Name; 13] = [
+pub const NAMES: [Name; 18] = [
     Name::new("log2", Program::Replay, || vec![Box::new(leaves::log2)]),
     Name::new("ring", Program::Replay, || vec![Box::new(leaves::ring)]),
     Name::new("sections", Program::Replay, || {
@@ -86,6 +87,15 @@ pub const NAMES: [Name; 13] = [
     Name::new("damaged_fullband", Program::ReplayParts, || {
         made(fullband::damaged_scripts())
     }),
+    Name::new("trace_sample", Program::TracePrinter, || {
+        vec![Box::new(trace::sample)]
+    }),
+    Name::new("trace_longer", Program::TracePrinter, trace::longer),
+    Name::new("trace_random", Program::TracePrinter, trace::random),
+    Name::new("trace_cuts", Program::TracePrinter, trace::cuts),
+    Name::new("trace_damaged", Program::TracePrinter, || {
+        made(trace::damaged_traces())
+    }),
 ];
 
 pub fn named(name: &str) -> Option<&'static Name> {
@@ -98,11 +108,12 @@ fn made(scripts: Vec<Script>) -> Vec<Maker> {
     scripts.into_iter().map(maker).collect()
 }
 
-/// The script of a program's stored sample.
+/// The input of a program's stored sample.
 pub fn stored_sample(program: Program) -> Script {
     match program {
         Program::Replay => sample::script(),
         Program::ReplayParts => parts_sample::script(),
+        Program::TracePrinter => trace::sample(),
     }
 }
 

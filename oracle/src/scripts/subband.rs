@@ -4,7 +4,7 @@ mod edges;
 mod phases;
 mod rests;
 pub mod sample;
-mod stretches;
+pub mod stretches;
 
 use super::part::{damaged, makers, refused, starts, SETTINGS};
 use super::spectra::Power;

@@ -60,7 +60,7 @@ enum Renders {
 
 /// How a stretch's captures and residuals lie to each other.
 #[derive(Clone, Copy)]
-enum Ratio {
+pub enum Ratio {
     Free,
     /// About the figures of most settings.
     Middle,
@@ -159,13 +159,18 @@ impl Stretch {
         estimator: &SubbandErleEstimator,
         channel: usize,
     ) -> (Spectrum, Spectrum) {
-        if let Ratio::Aimed = self.ratio {
-            return aimed(random, estimator, channel, &self.start);
+        match self.ratio {
+            Ratio::Aimed => aimed(random, estimator, channel, &self.start),
+            ratio => capture_and_residual(random, ratio),
         }
-        let residual: Spectrum = std::array::from_fn(|_| residual(random, self.ratio));
-        let capture = residual.map(|residual| capture(random, self.ratio, residual));
-        (capture, residual)
     }
+}
+
+/// A channel's capture and residual, of a manner that does not aim.
+pub fn capture_and_residual(random: &mut Random, how: Ratio) -> (Spectrum, Spectrum) {
+    let residual: Spectrum = std::array::from_fn(|_| residual(random, how));
+    let capture = residual.map(|residual| capture(random, how, residual));
+    (capture, residual)
 }
 
 fn residual(random: &mut Random, how: Ratio) -> f32 {

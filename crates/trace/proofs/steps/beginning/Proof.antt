@@ -1,0 +1,16 @@
+-- The start is that of the definition.
+use borrow.Author.Needs.{needs}
+use mathlib.Core.Path.{ap}
+use Rattle.erle_estimator.specs.declared.ErleAnswer.{ErleAnswer}
+use Rattle.erle_estimator.specs.Erle.{refusedSettings}
+use Rattle.trace.specs.declared.Trace.{Trace}
+use Rattle.trace.specs.Apply.{beginning}
+use Rattle.trace.proofs.steps.beginning.Statement.{statement}
+use Rattle.trace.proofs.steps.beginning.Tie as tie
+
+returns : tie.Need-returns
+unfolding beginning refusedSettings
+returns c = rw (c .before .new .ensures)
+
+pub beginning-spec : {M : Type 1} → statement M
+beginning-spec = tie.close (tie.spec (λ c κs. search needs) returns)

@@ -1,0 +1,4 @@
+pub mod Framing
+pub mod Tables
+pub mod Blocks
+pub mod Judged
