@@ -82,12 +82,19 @@ fn finish(out: &mut [u8], at: usize, s: &[u8]) -> Listed
     }
 }
 
+// Room for the lines of one record.
+fn text_table() -> [u8; MOST_TEXT]
+    ensures { λ r. ⌜ length r ≡ 196 ⌝ }
+{
+    [0; MOST_TEXT]
+}
+
 // The listing of a trace, and the rest of the slice as it was. A listing that is longer than the slice is cut off at its end.
 pub fn list_trace(input: &[u8], out: &mut [u8]) -> Listed
     ensures { λ r. ⌜ r ≡ listedAnswer (now (input .entry)) (now (out .entry)) ⌝ }
     ensures { λ _. ⌜ now (out .exit) ≡ listedOver (now (input .entry)) (now (out .entry)) ⌝ }
 {
-    let mut text = [0u8; MOST_TEXT];
+    let mut text = text_table();
     let mut pending = put_header(&mut text, 0);
     let mut t = beginning();
     let mut from = 0;

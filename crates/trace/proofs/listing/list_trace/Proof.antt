@@ -21,7 +21,7 @@ abbrev μ-loop : tie.MeasureT-loop
 
 loop-holds : tie.Need-loop-holds Inv-loop μ-loop
 loop-holds c =
-    let (front, few, long) = header-first _ refl (c .before .before .put-header .ensures) in
+    let (front, few, long) = header-first _ (c .before .before .before .before .text-table .ensures) (c .before .before .put-header .ensures) in
     (rw (c .beginning .ensures) (so-far-none _ _ _ front), few, long)
 
 -- the piece that is yet to be written lies in the table
@@ -44,29 +44,29 @@ all c =
     (c .before .before .finish2 .ensures .0 ∙ e .0, c .before .before .finish2 .ensures .1 ∙ e .1)
 
 -- a record is yet to be read
-some : (c : tie.In-loop Inv-loop μ-loop) → 0 < length (drop (c .before .loop .from) (c .before .before .before .before .before .before .before .before .args .input .now))
-some c = omega (arith, c .loop-test .taken, length-drop (c .before .loop .from) (c .before .before .before .before .before .before .before .before .args .input .now))
+some : (c : tie.In-loop Inv-loop μ-loop) → 0 < length (drop (c .before .loop .from) (c .before .before .before .before .before .before .before .before .before .args .input .now))
+some c = omega (arith, c .loop-test .taken, length-drop (c .before .loop .from) (c .before .before .before .before .before .before .before .before .before .args .input .now))
 
 take-turn-requires : tie.Need-take-turn-requires Inv-loop μ-loop
 take-turn-requires c κs =
-    let s = c .before .before .before .before .before .before .before .before .before .before .before .before .before .before .before .before .args .input .now in
+    let s = c .before .before .before .before .before .before .before .before .before .before .before .before .before .before .before .before .before .args .input .now in
     let at = c .before .before .before .before .before .before .before .before .before .loop in
     (omega (arith, length-take (length s - at .from) (drop (at .from) s), length-drop (at .from) s, some (c .before .before .before .before .before .before .before .before)), at .inv .2)
 
 -- what the turn did, and what it left
-turned : (c : tie.After-t Inv-loop μ-loop) → Turned (c .before .before .before .before .before .before .before .before .before .before .before .before .loop .t) (drop (c .before .before .before .before .before .before .before .before .before .before .before .before .loop .from) (c .before .before .before .before .before .before .before .before .before .before .before .before .before .before .before .before .before .before .before .args .input .now)) (c .before .before .take-turn .last .1 .1 .0) (c .before .before .take-turn .result)
-turned c = turned-rest (c .before .before .before .before .before .before .before .before .before .before .before .before .before .before .before .before .before .before .before .args .input .now) (c .before .before .before .before .before .before .before .before .before .before .before .before .loop .from) (c .before .before .take-turn .ensures)
+turned : (c : tie.After-t Inv-loop μ-loop) → Turned (c .before .before .before .before .before .before .before .before .before .before .before .before .loop .t) (drop (c .before .before .before .before .before .before .before .before .before .before .before .before .loop .from) (c .before .before .before .before .before .before .before .before .before .before .before .before .before .before .before .before .before .before .before .before .args .input .now)) (c .before .before .take-turn .last .1 .1 .0) (c .before .before .take-turn .result)
+turned c = turned-rest (c .before .before .before .before .before .before .before .before .before .before .before .before .before .before .before .before .before .before .before .before .args .input .now) (c .before .before .before .before .before .before .before .before .before .before .before .before .loop .from) (c .before .before .take-turn .ensures)
 
-left : (c : tie.After-t Inv-loop μ-loop) → Left (c .before .before .before .before .before .before .before .before .before .before .before .before .loop .t) (drop (c .before .before .before .before .before .before .before .before .before .before .before .before .loop .from) (c .before .before .before .before .before .before .before .before .before .before .before .before .before .before .before .before .before .before .before .args .input .now)) (c .before .before .take-turn .last .1 .1 .0) (c .before .before .take-turn .result)
+left : (c : tie.After-t Inv-loop μ-loop) → Left (c .before .before .before .before .before .before .before .before .before .before .before .before .loop .t) (drop (c .before .before .before .before .before .before .before .before .before .before .before .before .loop .from) (c .before .before .before .before .before .before .before .before .before .before .before .before .before .before .before .before .before .before .before .before .args .input .now)) (c .before .before .take-turn .last .1 .1 .0) (c .before .before .take-turn .result)
 left c = turn-left (c .before .before .before .before .before .before .before .before .before .before .before .before .loop .inv .0 .sound) (some (c .before .before .before .before .before .before .before .before .before .before .before)) (turned c)
 
 -- no byte is read twice, nor one behind the last
-within : (c : tie.After-t Inv-loop μ-loop) → c .before .before .before .before .before .before .before .before .before .before .before .before .loop .from + c .before .before .take-turn .result .used ≤ length (c .before .before .before .before .before .before .before .before .before .before .before .before .before .before .before .before .before .before .before .args .input .now)
+within : (c : tie.After-t Inv-loop μ-loop) → c .before .before .before .before .before .before .before .before .before .before .before .before .loop .from + c .before .before .take-turn .result .used ≤ length (c .before .before .before .before .before .before .before .before .before .before .before .before .before .before .before .before .before .before .before .before .args .input .now)
 within c =
     omega (
       arith,
       left c .few,
-      length-drop (c .before .before .before .before .before .before .before .before .before .before .before .before .loop .from) (c .before .before .before .before .before .before .before .before .before .before .before .before .before .before .before .before .before .before .before .args .input .now),
+      length-drop (c .before .before .before .before .before .before .before .before .before .before .before .before .loop .from) (c .before .before .before .before .before .before .before .before .before .before .before .before .before .before .before .before .before .before .before .before .args .input .now),
       c .before .before .before .before .before .before .before .before .before .before .before .loop-test .taken,
     )
 
@@ -76,7 +76,7 @@ loop-again c =
     let t = turned (c .before) in
     let w = wrote _ _ _ _ _ (omega (arith, piece-long at, so-far-within (at .loop .inv .0), c .before .before .before .before .before .before .before .before .before .before .before .if1 .left)) (c .before .before .before .before .before .before .before .before .put-bytes .ensures) in (
       so-far-more (at .loop .inv .0) (c .before .before .before .before .before .before .before .before .before .before .before .before .loop-test .taken) w t,
-      omega (arith, t .long, turn-short (at .loop .t) (drop (at .loop .from) (c .before .before .before .before .before .before .before .before .before .before .before .before .before .before .before .before .before .before .before .before .args .input .now))),
+      omega (arith, t .long, turn-short (at .loop .t) (drop (at .loop .from) (c .before .before .before .before .before .before .before .before .before .before .before .before .before .before .before .before .before .before .before .before .before .args .input .now))),
       c .before .before .before .take-turn .kept .1 .1 .0 ∙ at .loop .inv .2,
     )
 
@@ -86,6 +86,7 @@ list-trace-spec =
     (tie.spec
     Inv-loop
     μ-loop
+    (λ c κs. search needs)
     (λ c. search needs)
     (λ c κs. search needs)
     (λ c κs. search needs)
@@ -104,7 +105,7 @@ list-trace-spec =
     (λ c. search needs)
     (λ c. search needs)
     take-turn-requires
-    (λ c. omega (arith, within (c .before), c .before .before .before .before .before .before .before .before .before .before .before .before .before .before .before .before .before .before .before .before .good .0 .0))
+    (λ c. omega (arith, within (c .before), c .before .before .before .before .before .before .before .before .before .before .before .before .before .before .before .before .before .before .before .before .before .good .0 .0))
     (λ c. omega (arith, within (c .before), left (c .before) .some))
     loop-again
     (λ c. few (c .before .before))
