@@ -63,7 +63,7 @@ impl Name {
     }
 }
 
-pub const NAMES: [Name; 18] = [
+pub const NAMES: [Name; 19] = [
     Name::new("log2", Program::Replay, || vec![Box::new(leaves::log2)]),
     Name::new("ring", Program::Replay, || vec![Box::new(leaves::ring)]),
     Name::new("sections", Program::Replay, || {
@@ -89,6 +89,9 @@ pub const NAMES: [Name; 18] = [
     }),
     Name::new("trace_sample", Program::TracePrinter, || {
         vec![Box::new(trace::sample)]
+    }),
+    Name::new("trace_shown", Program::TracePrinter, || {
+        vec![Box::new(trace::shown)]
     }),
     Name::new("trace_longer", Program::TracePrinter, trace::longer),
     Name::new("trace_random", Program::TracePrinter, trace::random),

@@ -34,6 +34,11 @@ pub fn sample() -> Script {
     script
 }
 
+/// A longer one, stored beside it to be printed.
+pub fn shown() -> Script {
+    longer::shown()
+}
+
 /// The settings of document 01's example.
 const EXAMPLE: Settings = Settings {
     limits: LIMITS[0],

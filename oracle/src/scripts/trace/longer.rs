@@ -64,6 +64,28 @@ fn add_with_reset(
     manner.add(random, script, settings.channels.into(), blocks);
 }
 
+/// The longer of the two traces that are stored to be printed: two channels learn,
+/// rest until their compensated figure is down at the minimum, and learn again
+/// after the delay changed.
+pub fn shown() -> Script {
+    let mut random = Random::new(81);
+    let settings = settings(2, true, 2);
+    let mut script = settled(&settings);
+    let mut add = |script: &mut Script, blocks, flags| {
+        let manner = Manner {
+            render: Power::Loud,
+            ratio: Ratio::Middle,
+            flags,
+        };
+        manner.add(&mut random, script, settings.channels.into(), blocks);
+    };
+    add(&mut script, 30, Flags::All);
+    add(&mut script, 170, Flags::None);
+    script.delay(DelayChanged(true));
+    add(&mut script, 24, Flags::Some);
+    script
+}
+
 /// A trace whose block numbers come to have five digits.
 pub fn many_blocks() -> Script {
     let mut random = Random::new(80);
