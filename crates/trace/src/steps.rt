@@ -64,7 +64,7 @@ pub fn beginning() -> Trace
 }
 
 // Whether the longest lines end within so many bytes. The sum is not made, since it might not be a usize.
-fn has_room(size: usize, at: usize) -> bool
+pub fn has_room(size: usize, at: usize) -> bool
     ensures { λ r. ⌜ r ≡ leb (at + 196) size ⌝ }
 {
     if size < at {
