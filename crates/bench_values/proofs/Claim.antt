@@ -9,7 +9,8 @@ use Rattle.aec3_common.specs.Log2.{approxLog2, log2Answer}
 use Rattle.aec3_common.specs.Settings.{sectionsOk}
 use Rattle.spectrum_buffer.specs.Ring.{offsetPlace, offsetRefusal, offsetAnswer}
 use Rattle.filter_sections.specs.Sections.{evenly, doubling, runningSums, boundaries, sectionsAnswer}
-use Rattle.erl_estimator.specs.Erl.{learnt, doubled, rested, afterBlock, bandAfter, reduced, started, learntFrom, processed, updated, updateRefusal, updateAnswer}
+use Rattle.erl_bands.specs.Figure.{learnt, doubled, rested, afterBlock}
+use Rattle.erl_estimator.specs.Erl.{bandAfter, reduced, started, learntFrom, processed, updated, updateRefusal, updateAnswer}
 use Rattle.bench_values.specs.Bench.{table, BenchTable}
 
 pub bench-table : BenchTable

@@ -1,4 +1,3 @@
-pub mod Constants
 mod Judged
 pub mod Range
 mod Steps

@@ -27,9 +27,10 @@ use Rattle.aec3_common.proofs.Bands.{shown-below}
 use Rattle.aec3_common.proofs.Choices.{and-left, and-right}
 use Rattle.aec3_common.proofs.Rounding.{failed, holds, signed-number, Minus, infinite, finite, round-minus, minus-below, round-number, at-least-if-not-below, at-most-if-not-above}
 use Rattle.aec3_common.proofs.Tables.{getD-tab}
+use Rattle.erl_bands.specs.declared.figure.Figure.{Figure}
+use Rattle.erl_bands.specs.Figure.{minErl, maxErl, share, two32, learns, learnt, doubled, rested, afterBlock}
 use Rattle.erl_estimator.specs.declared.ErlEstimator.{ErlEstimator}
-use Rattle.erl_estimator.specs.declared.figure.Figure.{Figure}
-use Rattle.erl_estimator.specs.Erl.{minErl, maxErl, share, two32, learns, learnt, doubled, rested, afterBlock, bandAfter, reduced, started, withCount, afterReset, learntFrom, processed, updated, updateRefusal, updateAnswer}
+use Rattle.erl_estimator.specs.Erl.{bandAfter, reduced, started, withCount, afterReset, learntFrom, processed, updated, updateRefusal, updateAnswer}
 use Rattle.erl_estimator.specs.Range.{Call, update, reset, after, run, inRange, FiguresInRange}
 
 -- ---- a figure in range

@@ -1,60 +1,30 @@
 -- Laws of the definitions that the loops over bands and channels go by.
-use mathlib.Core.Path.{_≡_, refl, sym, ap, _∙_, subst}
-use mathlib.Core.Bool.{Bool, true, false, cond, false≢true}
+use mathlib.Core.Path.{_≡_, refl, sym, ap, _∙_}
+use mathlib.Core.Bool.{Bool, true, false, cond}
 use mathlib.Core.List.{List, [], _∷_, map}
-use Prim.Native.Nat.{ℕ, zero, suc, _+_, _-_, _*_, _≤_, _<_}
-use native.Mathlib.Nat.{le-of-suc-le-suc, not-suc-le-zero}
+use Prim.Native.Nat.{ℕ, zero, suc, _+_, _-_, _≤_, _<_}
 use native.Mathlib.Numerals.{add-one}
 use native.Mathlib.Omega.{arith}
 use borrow.Author.Tests.{ltb-true}
 use lib.Dec.{ltb}
 use lib.IntN.{ℤ, pos}
-use lib.Ieee.{Float, nan, inf, fin, binary32, ofBits, div, lt}
+use lib.Ieee.{Float, nan}
 use lib.ListN.{length, getD, take, drop, drop-of-length-le}
 use lib.Seq.{drop-cons}
-use Rattle.aec3_common.specs.Binary32.{zero32, one32, energyThreshold, larger}
+use Rattle.aec3_common.specs.Binary32.{energyThreshold, larger}
 use Rattle.aec3_common.specs.Lists.{tab}
 use Rattle.aec3_common.specs.Spectra.{part, bandOf, innerBand, shownBand, endsCopied, flagged, greatestFrom}
 use Rattle.aec3_common.proofs.Choices.{and-left, and-right}
 use Rattle.aec3_common.proofs.Bands.{ends-are, shown-inner}
 use Rattle.aec3_common.proofs.Tables.{tab-is, tab-same, getD-tab, length-tab}
-use Rattle.erl_estimator.specs.declared.figure.Figure.{Figure}
+use Rattle.erl_bands.specs.declared.figure.Figure.{Figure}
+use Rattle.erl_bands.specs.Figure.{afterBlock}
+use Rattle.erl_bands.specs.Steps.{newErl, newErls, erlBy, holdBy, erlsBy, holdsBy}
+use Rattle.erl_bands.proofs.Steps.{figure-by}
 use Rattle.erl_estimator.specs.declared.reduce.FirstConverged.{FirstConverged}
 use Rattle.erl_estimator.specs.declared.reduce.FirstConverged.the-variants.{Channel, Nothing}
-use Rattle.erl_estimator.specs.Erl.{learnt, rested, afterBlock, bandAfter, greatestOver, reduced}
+use Rattle.erl_estimator.specs.Erl.{bandAfter, greatestOver, reduced}
 use Rattle.erl_estimator.specs.First.{firstFrom}
-use Rattle.erl_estimator.specs.Steps.{newErl, newErls, learntErl, erlBy, holdBy, erlsBy, holdsBy}
-
--- ---- one band by its new ERL
-
--- plus infinity is below nothing
-never-below : (x : Float) → lt (inf false) x ≡ false
-unfolding lt
-never-below nan = refl
-never-below (inf s) = refl
-never-below (fin s m e) = refl
-
--- so an infinite new ERL teaches nothing
-taught-none : (x : Float) → lt (div binary32 one32 zero32) x ≡ false
-unfolding div ofBits
-taught-none x = never-below x
-
--- a band's figure after the block, by its new ERL
-abbrev figureBy : Float → Float → ℤ → Figure
-figureBy new erl hold = record { erl = erlBy new erl (holdBy new erl hold); hold = holdBy new erl hold }
-
-figure-by :
-    (render capture erl : Float) (hold : ℤ)
-    → figureBy (newErl render capture) erl hold ≡ afterBlock energyThreshold render capture (record { erl = erl; hold = hold })
-unfolding erlBy learntErl holdBy newErl afterBlock rested learnt
-figure-by render capture erl hold = go (lt energyThreshold render) refl (lt (div binary32 capture render) erl) refl
-  where
-    go :
-        (t : Bool) → lt energyThreshold render ≡ t → (u : Bool) → lt (div binary32 capture render) erl ≡ u
-        → figureBy (newErl render capture) erl hold ≡ afterBlock energyThreshold render capture (record { erl = erl; hold = hold })
-    go true e true f = simp (e, f)
-    go true e false f = simp (e, f)
-    go false e u f = simp (e, taught-none erl)
 
 -- ---- the walk to the first converged channel
 
@@ -214,12 +184,6 @@ ends-of-inner :
 ends-of-inner f g =
     let h : ℕ → Float = λ k. cond (innerBand k) (f k) (g k) in
     ends-are (tab 65 h) f (length-tab 65 h) (λ k b e. getD-tab 65 h k nan b ∙ simp e)
-
--- what stands beside the inner bands is one value
-pub beside-same :
-    (f : ℕ → Float) (v : Float)
-    → tab 65 (λ k. cond (innerBand k) (f k) (getD (tab 65 (λ j. v)) k nan)) ≡ tab 65 (λ k. cond (innerBand k) (f k) v)
-beside-same f v = tab-same 65 nan _ _ (λ k b. ap (λ (x : Float). cond (innerBand k) (f k) x) (getD-tab 65 (λ j. v) k nan b))
 
 -- a shown band is one of 1 to 63
 shown-some : (k : ℕ) → k < 65 → 0 < shownBand k

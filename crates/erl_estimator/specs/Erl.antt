@@ -4,57 +4,18 @@ use mathlib.Core.List.{List, [], _∷_, map}
 use Prim.Native.Nat.{ℕ, suc, _-_, _*_}
 use lib.Dec.{ltb, eqb}
 use lib.IntN.{ℤ, pos}
-use lib.Signed.{leZ}
-use lib.Ieee.{Float, nan, binary32, ofBits, mul, div, lt}
+use lib.Ieee.{Float, nan}
 use lib.ListN.{length, getD}
 use Rattle.aec3_common.specs.Lists.{tab}
-use Rattle.aec3_common.specs.Binary32.{energyThreshold, sumThreshold, larger, smaller, moved, valuesOk}
-use Rattle.aec3_common.specs.Counts.{oneMore, fallen}
+use Rattle.aec3_common.specs.Binary32.{energyThreshold, sumThreshold, valuesOk}
+use Rattle.aec3_common.specs.Counts.{oneMore}
 use Rattle.aec3_common.specs.Refusal.{unless, accepted, badChannelCount, badLength, badValue}
 use Rattle.aec3_common.specs.Settings.{captureChannelsOk, renderChannelsOk}
 use Rattle.aec3_common.specs.Spectra.{bandOf, shownBand, flagged, sum, greatestFrom}
-use Rattle.erl_estimator.specs.declared.figure.Figure.{Figure}
+use Rattle.erl_bands.specs.declared.figure.Figure.{Figure}
+use Rattle.erl_bands.specs.Figure.{maxErl, afterBlock}
 use Rattle.erl_estimator.specs.declared.ErlEstimator.{ErlEstimator}
 use Rattle.erl_estimator.specs.declared.ErlUpdate.{ErlUpdate}
-
--- 0.01 and 1,000: from a start every ERL lies between them (`FiguresInRange`)
-abbrev pub minErl : Float
-minErl = ofBits binary32 0x3c23_d70a
-
-abbrev pub maxErl : Float
-maxErl = ofBits binary32 0x447a_0000
-
--- 0.1, the share of the difference by which an ERL moves
-abbrev pub share : Float
-share = ofBits binary32 0x3dcc_cccd
-
-abbrev pub two32 : Float
-two32 = ofBits binary32 0x4000_0000
-
--- ---- one figure: an ERL and its hold
-
--- whether render is above the threshold and capture/render below the ERL
-abbrev pub learns : Float → Float → Float → Float → Bool
-learns threshold render capture erl = lt threshold render && lt (div binary32 capture render) erl
-
--- then the ERL moves by 0.1 of the difference, not below 0.01, and its hold becomes 1,000
-unfoldable pub learnt : Float → Float → Float → Figure → Figure
-learnt threshold render capture f =
-    cond (learns threshold render capture (f .erl))
-    (record { erl = larger (moved (f .erl) (div binary32 capture render) share) minErl; hold = pos 1000 })
-    f
-
--- the ERL beside a hold: at 0 or less it doubles, at most 1,000
-unfoldable pub doubled : ℤ → Float → Float
-doubled hold erl = cond (leZ hold (pos 0)) (smaller (mul binary32 two32 erl) maxErl) erl
-
--- the hold falls by 1, and where it is then 0 or less the ERL doubles
-unfoldable pub rested : Figure → Figure
-rested f = record { erl = doubled (fallen (f .hold)) (f .erl); hold = fallen (f .hold) }
-
--- a figure one block later
-unfoldable pub afterBlock : Float → Float → Float → Figure → Figure
-afterBlock threshold render capture f = rested (learnt threshold render capture f)
 
 -- ---- spectra reduced to their per-band greatest over some channels
 

@@ -5,8 +5,9 @@ use mathlib.Core.List.{List, [], _∷_}
 use Prim.Native.Nat.{ℕ, _<_}
 use lib.Ieee.{Float, nan, le}
 use lib.ListN.{getD}
+use Rattle.erl_bands.specs.Figure.{minErl, maxErl}
 use Rattle.erl_estimator.specs.declared.ErlEstimator.{ErlEstimator}
-use Rattle.erl_estimator.specs.Erl.{minErl, maxErl, started, afterReset, updateAnswer}
+use Rattle.erl_estimator.specs.Erl.{started, afterReset, updateAnswer}
 
 -- a call: an update with its counts, flags, renders and captures, whether it is accepted or not; or a reset
 pub data Call : Type 0 where

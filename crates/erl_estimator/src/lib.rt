@@ -1,17 +1,16 @@
 // Echo return loss: the ERL of each band, and the time-domain ERL.
-mod bands;
-mod figure;
 mod judge;
 mod reduce;
 
 use aec3_common::counts::one_more;
 use aec3_common::refusal::ACCEPTED;
 use aec3_common::spectra::copy_ends;
-use bands::moved_erl;
-use bands::moved_holds;
-use bands::new_erls;
-use figure::MAX_ERL;
-use figure::time_domain_after;
+use erl_bands::bands::moved_erl;
+use erl_bands::bands::moved_holds;
+use erl_bands::bands::new_erls;
+use erl_bands::figure::Figure;
+use erl_bands::figure::MAX_ERL;
+use erl_bands::figure::time_domain_after;
 use judge::update_refusal;
 use reduce::FirstConverged;
 use reduce::all_reduced;
@@ -22,7 +21,6 @@ ghost use Prim.Native.Nat.{_*_, _≤_, _<_};
 ghost use lib.ListN.{length};
 ghost use Rattle.aec3_common.specs.Counts.{oneMore};
 ghost use Rattle.erl_estimator.specs.Erl.{started, afterReset, withCount, learntFrom, updated as Erl·updated, updateAnswer};
-use figure::Figure;
 
 pub struct ErlEstimator {
     pub erl: [f32; 65],

@@ -23,7 +23,8 @@ use Rattle.subband_erle_estimator.specs.Subband.{settingsRefusal as Subband·se
 use Rattle.signal_dependent_erle_estimator.specs.SignalDependent.{Update as SignalUpdate, settingsRefusal as SignalDependent·settingsRefusal, boundariesOf, sameFirst, channelOk as SignalDependent·channelOk, noChannel as SignalDependent·noChannel, stateOk as SignalDependent·stateOk, allLengthsOk, allValuesOk, responsesOk, ringRefusal, refusalOf, updateRefusal as SignalDependent·updateRefusal}
 use Rattle.signal_dependent_erle_estimator.specs.Steps.{Passed}
 use Rattle.signal_dependent_erle_estimator.proofs.Judged.{few-captures, eight-sections, update-passed}
-use Rattle.fullband_erle_estimator.specs.FullBand.{settingsRefusal as FullBand·settingsRefusal, channelOk as FullBand·channelOk, noChannel as FullBand·noChannel, stateOk as FullBand·stateOk}
+use Rattle.fullband_channel.specs.Channel.{channelOk as FullBand·channelOk}
+use Rattle.fullband_erle_estimator.specs.FullBand.{settingsRefusal as FullBand·settingsRefusal, noChannel as FullBand·noChannel, stateOk as FullBand·stateOk}
 use Rattle.erle_estimator.specs.declared.ErleEstimator.{ErleEstimator}
 use Rattle.erle_estimator.specs.Parts.{subbandSettings, signalSettings, fullbandSettings, subbandPart, signalPart, fullbandPart}
 use Rattle.erle_estimator.specs.Steps.{judgedChannels, settingsPass}

@@ -26,8 +26,8 @@ use Rattle.signal_dependent_erle_estimator.specs.declared.channel.SignalDepende
 use Rattle.signal_dependent_erle_estimator.specs.Channel.{Lent, channelAfter as SignalDependent·channelAfter}
 use Rattle.signal_dependent_erle_estimator.specs.SignalDependent.{noChannel as SignalDependent·noChannel, channelAt as SignalDependent·channelAt, lentTo, activeOf, updated as SignalDependent·updated, afterAccepted as SignalDependent·afterAccepted}
 use Rattle.signal_dependent_erle_estimator.proofs.Updates.{active-at}
-use Rattle.fullband_erle_estimator.specs.declared.channel.FullBandChannel.{FullBandChannel}
-use Rattle.fullband_erle_estimator.specs.Channel.{withPoint, oneBlockLess}
+use Rattle.fullband_channel.specs.declared.channel.FullBandChannel.{FullBandChannel}
+use Rattle.fullband_channel.specs.Channel.{withPoint, oneBlockLess}
 use Rattle.fullband_erle_estimator.specs.FullBand.{minLog2, noChannel as FullBand·noChannel, channelAt as FullBand·channelAt, updated as FullBand·updated}
 use Rattle.fullband_erle_estimator.specs.Steps.{loudFor}
 use Rattle.fullband_erle_estimator.proofs.Updates.{channelOf as FullBand·channelOf, heard-channel, quiet-channel as FullBand·quiet-channel}

@@ -19,9 +19,9 @@ use Rattle.subband_erle_estimator.specs.declared.SubbandErleEstimator.{SubbandE
 use Rattle.subband_erle_estimator.specs.Subband.{stateOk as Subband·stateOk, started as Subband·started, updated as Subband·updated}
 use Rattle.signal_dependent_erle_estimator.specs.declared.channel.SignalDependentChannel.{SignalDependentChannel}
 use Rattle.signal_dependent_erle_estimator.specs.SignalDependent.{Update as SignalUpdate, stateOk as SignalDependent·stateOk, ringRefusal, responsesOk, boundariesOf, started as SignalDependent·started, afterAccepted as SignalDependent·afterAccepted}
+use Rattle.fullband_channel.specs.declared.instantaneous.OptionalNumber.the-variants.{Absent}
 use Rattle.fullband_erle_estimator.specs.declared.FullBandFigure.{FullBandFigure}
 use Rattle.fullband_erle_estimator.specs.declared.QualityAnswer.{QualityAnswer}
-use Rattle.fullband_erle_estimator.specs.declared.instantaneous.OptionalNumber.the-variants.{Absent}
 use Rattle.fullband_erle_estimator.specs.FullBand.{stateOk as FullBand·stateOk, started as FullBand·started, updated as FullBand·updated, fullbandLog2, decibels, figureCase, qualityAnswer as FullBand·qualityAnswer}
 use Rattle.erle_estimator.specs.declared.ErleEstimator.{ErleEstimator}
 use Rattle.erle_estimator.specs.declared.ErleAnswer.{ErleAnswer}

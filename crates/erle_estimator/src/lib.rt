@@ -38,7 +38,7 @@ ghost use mathlib.Core.Path.{_≡_};
 ghost use mathlib.Core.Bool.{true};
 ghost use lib.Ieee.{binary32, add, lt};
 ghost use Rattle.aec3_common.specs.Binary32.{zero32};
-ghost use Rattle.fullband_erle_estimator.specs.Instantaneous.{epsilon};
+ghost use Rattle.fullband_channel.specs.Instantaneous.{epsilon};
 ghost use Rattle.erle_estimator.specs.Parts.{fullbandPart};
 ghost use Rattle.erle_estimator.specs.Erle.{Update, stateOk, startedWith, startAnswer, blocksKept, resetAnswer, updateAnswer, log2Answer, decibelAnswer, qualityAnswer};
 

@@ -22,8 +22,7 @@ ghost use Rattle.section_echoes.specs.Steps.{RingFits, allActive};
 ghost use Rattle.correction_factors.specs.Factors.{subbandSums};
 ghost use Rattle.subband_erle_estimator.specs.Channel.{Block, channelAfter as Subband·channelAfter};
 ghost use Rattle.signal_dependent_erle_estimator.specs.Channel.{Lent, channelAfter as SignalDependent·channelAfter};
-ghost use Rattle.fullband_erle_estimator.specs.Channel.{withPoint, oneBlockLess};
-ghost use Rattle.fullband_erle_estimator.specs.FullBand.{channelOk as FullBand·channelOk};
+ghost use Rattle.fullband_channel.specs.Channel.{channelOk as FullBand·channelOk, withPoint, oneBlockLess};
 
 // A converged channel learns and decays, another one only decays.
 pub fn subband_channel(

@@ -9,7 +9,7 @@ use lib.Ieee.{Float}
 use lib.ListN.{length, getD, take, drop, drop-of-length-le}
 use lib.Seq.{drop-cons, getD-take, length-take-le}
 use Rattle.aec3_common.specs.Binary32.{smaller}
-use Rattle.fullband_erle_estimator.specs.declared.channel.FullBandChannel.{FullBandChannel}
+use Rattle.fullband_channel.specs.declared.channel.FullBandChannel.{FullBandChannel}
 use Rattle.fullband_erle_estimator.specs.FullBand.{leastFrom, leastOr, noChannel}
 
 -- what the loop over the first n channels knows at k: with those from k on its number becomes the least of all

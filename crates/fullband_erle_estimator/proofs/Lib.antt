@@ -1,4 +1,3 @@
-pub mod Points
 pub mod Judged
 pub mod Least
 pub mod Updates

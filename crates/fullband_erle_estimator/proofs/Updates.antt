@@ -13,9 +13,9 @@ use Rattle.aec3_common.proofs.Calls.{UpdateOk}
 use Rattle.aec3_common.proofs.Choices.{and-comm}
 use Rattle.aec3_common.proofs.Every.{every-at}
 use Rattle.aec3_common.proofs.Tables.{Stored, stored-more, stored-firsts}
-use Rattle.fullband_erle_estimator.specs.declared.channel.FullBandChannel.{FullBandChannel}
+use Rattle.fullband_channel.specs.declared.channel.FullBandChannel.{FullBandChannel}
+use Rattle.fullband_channel.specs.Channel.{withPoint, oneBlockLess, channelAfter}
 use Rattle.fullband_erle_estimator.specs.declared.FullBandErleEstimator.{FullBandErleEstimator}
-use Rattle.fullband_erle_estimator.specs.Channel.{withPoint, oneBlockLess, channelAfter}
 use Rattle.fullband_erle_estimator.specs.FullBand.{stateOk, minLog2, noChannel, channelAt, updated}
 use Rattle.fullband_erle_estimator.specs.Steps.{loudFor}
 

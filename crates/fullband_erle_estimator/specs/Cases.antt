@@ -6,7 +6,7 @@ use Prim.Native.Nat.{ℕ}
 use lib.Dec.{eqb}
 use lib.Ieee.{Float}
 use Rattle.aec3_common.specs.Refusal.{accepted}
-use Rattle.fullband_erle_estimator.specs.Instantaneous.{optionalCase, isPresent, optionalRefusal, optionalValues}
+use Rattle.fullband_channel.specs.Instantaneous.{optionalCase, isPresent, optionalRefusal, optionalValues}
 use Rattle.fullband_erle_estimator.specs.FullBand.{figureCase, figureNumber, figureValues}
 
 -- a figure's answer has the number that it was made of, and the figure where that is 0

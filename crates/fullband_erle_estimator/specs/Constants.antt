@@ -1,18 +1,8 @@
--- The fullband estimator's constants that stand as bits, beside their numbers in document 01 and in the source.
+-- The fullband estimator's constant that stands as bits, beside its number in document 01.
 use mathlib.Core.Path.{_≡_}
-use mathlib.Core.List.{List, [], _∷_}
-use lib.IntN.{pos, negℤ}
-use lib.Ieee.{Float, binary32, ofInt, div}
 use Rattle.aec3_common.specs.Log2.{rounded}
-use Rattle.fullband_erle_estimator.specs.Instantaneous.{epsilon, extremeStep, qualityShare, firstGreatest, firstLeast}
-use Rattle.fullband_erle_estimator.specs.Channel.{figureShare}
 use Rattle.fullband_erle_estimator.specs.FullBand.{decibelFactor}
 
--- Claim: 0.001, 0.0004, 0.07 and 0.05 are the binary32 numbers nearest to 1/1000, 4/10000, 7/100 and 5/100; -10, 33 and 3 are
--- exact.
+-- Claim: the factor is 3, which is exact.
 unfoldable pub ConstantsAreTheirNumbers : Type 0
-ConstantsAreTheirNumbers =
-    _≡_ {A = List Float}
-    (epsilon ∷ extremeStep ∷ qualityShare ∷ figureShare ∷ firstGreatest ∷ firstLeast ∷ decibelFactor ∷ [])
-    (div binary32 (rounded 1) (rounded 1000) ∷ div binary32 (rounded 4) (rounded 10000) ∷ div binary32 (rounded 7) (rounded 100)
-    ∷ div binary32 (rounded 5) (rounded 100) ∷ ofInt binary32 (negℤ (pos 10)) ∷ rounded 33 ∷ rounded 3 ∷ [])
+ConstantsAreTheirNumbers = decibelFactor ≡ rounded 3

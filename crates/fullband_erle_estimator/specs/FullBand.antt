@@ -6,34 +6,28 @@ use lib.Dec.{ltb, eqb}
 use lib.IntN.{pos}
 use lib.Ieee.{Float, nan, binary32, ofBits, mul}
 use lib.ListN.{getD, take}
-use Rattle.aec3_common.specs.Binary32.{zero32, greatestSum, within, smaller}
+use Rattle.aec3_common.specs.Binary32.{zero32, smaller}
 use Rattle.aec3_common.specs.Calls.{callRefusal}
 use Rattle.aec3_common.specs.Lists.{tab, every}
 use Rattle.aec3_common.specs.Refusal.{unless, accepted, badState}
 use Rattle.aec3_common.specs.Settings.{maxCaptureChannels, limitsAndChannelsRefusal}
 use Rattle.aec3_common.specs.Spectra.{part}
-use Rattle.fullband_erle_estimator.specs.declared.instantaneous.OptionalNumber.the-variants.{Absent}
+use Rattle.fullband_channel.specs.declared.instantaneous.OptionalNumber.the-variants.{Absent}
+use Rattle.fullband_channel.specs.declared.channel.FullBandChannel.{FullBandChannel}
+use Rattle.fullband_channel.specs.Instantaneous.{log2Above, qualityOf}
+use Rattle.fullband_channel.specs.Channel.{channelOk, freshChannel, channelAfter}
 use Rattle.fullband_erle_estimator.specs.declared.settings.FullBandSettings.{FullBandSettings}
-use Rattle.fullband_erle_estimator.specs.declared.channel.FullBandChannel.{FullBandChannel}
 use Rattle.fullband_erle_estimator.specs.declared.FullBandErleEstimator.{FullBandErleEstimator}
 use Rattle.fullband_erle_estimator.specs.declared.FullBandAnswer.{FullBandAnswer}
 use Rattle.fullband_erle_estimator.specs.declared.FullBandFigure.{FullBandFigure}
 use Rattle.fullband_erle_estimator.specs.declared.FullBandFigure.the-variants.{Value, Refused}
 use Rattle.fullband_erle_estimator.specs.declared.QualityAnswer.{QualityAnswer}
-use Rattle.fullband_erle_estimator.specs.Instantaneous.{allPoints, log2Above, qualityOf}
-use Rattle.fullband_erle_estimator.specs.Channel.{freshChannel, channelAfter}
 
 -- ---- calls turned away
 
 -- the first of 1 and 2 that the settings break, or 0
 unfoldable pub settingsRefusal : FullBandSettings → ℕ
 settingsRefusal s = limitsAndChannelsRefusal (s .min) (s .«max_l») (s .«max_h») (s .«num_capture_channels»)
-
--- fewer than six points, so a point count of 0 to 5, and held sums within 0 to 2^110
-unfoldable pub channelOk : FullBandChannel → Bool
-channelOk c =
-    let i = c .«instantaneous_erle» in
-    ltb (i .«num_points») allPoints && within greatestSum (i .«y2_accum») && within greatestSum (i .«e2_accum»)
 
 -- number 20: the settings break neither 1 nor 2, and each of the state's channels passes; records beyond them are not judged
 unfoldable pub stateOk : FullBandErleEstimator → Bool

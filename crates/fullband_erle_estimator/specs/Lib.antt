@@ -1,5 +1,3 @@
-pub mod Instantaneous
-pub mod Channel
 pub mod FullBand
 pub mod Constants
 pub mod Cases

@@ -1,6 +1,4 @@
 // Fullband ERLE: one log2 figure over all bands and channels, in decibels too, and the quality of each channel's linear filter.
-mod channel;
-mod instantaneous;
 mod settings;
 
 use aec3_common::X2_SUM_ENERGY_THRESHOLD;
@@ -10,9 +8,9 @@ use aec3_common::refusal::BAD_STATE;
 use aec3_common::smaller;
 use aec3_common::spectra::part;
 use aec3_common::spectra::sum;
-pub use channel::FullBandChannel;
-pub use instantaneous::ErleInstantaneous;
-pub use instantaneous::OptionalNumber;
+pub use fullband_channel::channel::FullBandChannel;
+pub use fullband_channel::instantaneous::ErleInstantaneous;
+pub use fullband_channel::instantaneous::OptionalNumber;
 pub use settings::FullBandSettings;
 use settings::refused_settings;
 ghost use mathlib.Core.Path.{_≡_};
@@ -22,8 +20,9 @@ ghost use lib.Ieee.{binary32, add, lt};
 ghost use lib.ListN.{take};
 ghost use Rattle.aec3_common.specs.Binary32.{zero32};
 ghost use Rattle.aec3_common.specs.Lists.{every};
-ghost use Rattle.fullband_erle_estimator.specs.Instantaneous.{epsilon};
-ghost use Rattle.fullband_erle_estimator.specs.FullBand.{channelOk, stateOk, started as FullBand·started, startAnswer, resetAnswer, updateAnswer, fullbandLog2, decibels as FullBand·decibels, log2Answer, decibelAnswer, qualityAnswer};
+ghost use Rattle.fullband_channel.specs.Instantaneous.{epsilon};
+ghost use Rattle.fullband_channel.specs.Channel.{channelOk};
+ghost use Rattle.fullband_erle_estimator.specs.FullBand.{stateOk, started as FullBand·started, startAnswer, resetAnswer, updateAnswer, fullbandLog2, decibels as FullBand·decibels, log2Answer, decibelAnswer, qualityAnswer};
 ghost use Rattle.fullband_erle_estimator.specs.Steps.{loudFor};
 
 // What turns a log2 figure into decibels.

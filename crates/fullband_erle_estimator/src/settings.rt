@@ -1,12 +1,12 @@
 // The settings of the estimator, and what turns them away.
-use crate::instantaneous::EPSILON;
 use aec3_common::log2::log2_of_positive;
 use aec3_common::settings::limits_and_channels_refusal;
+use fullband_channel::instantaneous::EPSILON;
 ghost use mathlib.Core.Path.{_≡_};
 ghost use mathlib.Core.Bool.{true};
 ghost use lib.Ieee.{binary32, add, lt};
 ghost use Rattle.aec3_common.specs.Binary32.{zero32};
-ghost use Rattle.fullband_erle_estimator.specs.Instantaneous.{epsilon};
+ghost use Rattle.fullband_channel.specs.Instantaneous.{epsilon};
 ghost use Rattle.fullband_erle_estimator.specs.FullBand.{settingsRefusal, refusedSettings, minLog2};
 
 pub struct FullBandSettings {

@@ -7,9 +7,10 @@ use Rattle.aec3_common.specs.Binary32.{sumThreshold}
 use Rattle.aec3_common.specs.Lists.{tab}
 use Rattle.aec3_common.specs.Spectra.{shownBand, endsCopied, sum}
 use Rattle.aec3_common.proofs.Holds.{read-back}
-use Rattle.erl_estimator.specs.declared.figure.Figure.{Figure}
-use Rattle.erl_estimator.specs.Erl.{afterBlock, bandAfter, learntFrom}
-use Rattle.erl_estimator.specs.Steps.{newErls, erlsBy, holdsBy}
+use Rattle.erl_bands.specs.declared.figure.Figure.{Figure}
+use Rattle.erl_bands.specs.Figure.{afterBlock}
+use Rattle.erl_bands.specs.Steps.{newErls, erlsBy, holdsBy}
+use Rattle.erl_estimator.specs.Erl.{bandAfter, learntFrom}
 use Rattle.erl_estimator.proofs.Steps.{holds-after, erls-after}
 use Rattle.erl_estimator.proofs.ErlEstimator.learnt_from.Statement.{statement}
 use Rattle.erl_estimator.proofs.ErlEstimator.learnt_from.Tie as tie

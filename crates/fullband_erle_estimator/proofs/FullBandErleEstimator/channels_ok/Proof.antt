@@ -7,7 +7,8 @@ use lib.ListN.{length, take}
 use Rattle.aec3_common.specs.Lists.{every}
 use Rattle.aec3_common.proofs.Every.{Tested, tested-none, tested-more}
 use Rattle.aec3_common.proofs.Tables.{length-mapped}
-use Rattle.fullband_erle_estimator.specs.FullBand.{channelOk, noChannel}
+use Rattle.fullband_channel.specs.Channel.{channelOk}
+use Rattle.fullband_erle_estimator.specs.FullBand.{noChannel}
 use Rattle.fullband_erle_estimator.proofs.FullBandErleEstimator.channels_ok.Statement.{statement}
 use Rattle.fullband_erle_estimator.proofs.FullBandErleEstimator.channels_ok.Tie as tie
 

@@ -1,0 +1,3 @@
+pub mod Figure
+pub mod Constants
+pub mod Steps

@@ -1,0 +1,4 @@
+pub mod Points
+pub mod Judged
+pub mod Constants
+pub mod Kept

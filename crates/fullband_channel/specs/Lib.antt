@@ -1,0 +1,4 @@
+pub mod Instantaneous
+pub mod Channel
+pub mod Constants
+pub mod Steps
