@@ -16,13 +16,12 @@ use Rattle.erle_estimator.specs.Erle.{Update, counted, updated, afterAccepted, 
 use Rattle.trace_records.specs.Records.{kindOf, blockKind}
 use Rattle.trace_records.specs.Judge.{formRefusal}
 use Rattle.trace_records.proofs.Judged.{by-block}
-use Rattle.trace_text.specs.Text.{line, lines}
-use Rattle.trace_text.proofs.Lines.{lines-one}
+use Rattle.trace_text.specs.Text.{lines}
 use Rattle.trace.specs.declared.Trace.{Trace}
 use Rattle.trace.specs.declared.steps.Stepped.{Stepped}
 use Rattle.trace.specs.Apply.{standingOf, updateIn, channelsOf, answerOf, nextOf, rowsOf}
 use Rattle.trace.specs.Listing.{refusedAt, itemsBy}
-use Rattle.trace.specs.Steps.{mostText, stepRefusal, stepText, stepAnswer, stepOver, RefusedBy}
+use Rattle.trace.specs.Steps.{mostText, stepRefusal, textBy, stepText, stepAnswer, stepOver, RefusedBy}
 
 -- an update keeps the settings
 pub either-keeps : (t : Bool) (x y : ErleEstimator) (g : ErleSettings) → x .settings ≡ g → y .settings ≡ g → cond t x y .settings ≡ g
@@ -69,11 +68,11 @@ module _ (t : Trace) (r : List ℕ) where
           → (a ≡ stepAnswer t r d at) × (e ≡ stepOver t r d at)
       unfolding stepAnswer stepOver stepText itemsBy
       step-refused {n} is some by =
-          (by .answer ∙ sym (rw (room, ← is, ne-eqb n accepted some, lines-one)), by .text ∙ sym (rw (room, ← is, ne-eqb n accepted some, lines-one)))
+          (by .answer ∙ sym (rw (room, ← is, ne-eqb n accepted some)), by .text ∙ sym (rw (room, ← is, ne-eqb n accepted some)))
 
       pub step-accepted :
           {u : Trace} {next : ℕ} {e : List ℕ} → stepRefusal t r ≡ accepted → u ≡ nextOf t r
           → (e ≡ laid d at (lines (rowsOf t r))) × (next ≡ at + length (lines (rowsOf t r)))
           → (record { state = u; refused = accepted; at = next; fits = true } ≡ stepAnswer t r d at) × (e ≡ stepOver t r d at)
-      unfolding stepAnswer stepOver stepText itemsBy
+      unfolding stepAnswer stepOver stepText textBy itemsBy
       step-accepted is next text = (sym (rw (room, is, next, text .1)), text .0 ∙ sym (rw (room, is)))

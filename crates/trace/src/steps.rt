@@ -5,6 +5,7 @@ use crate::rows::put_rows;
 use aec3_common::counts::one_more;
 use aec3_common::refusal::ACCEPTED;
 use aec3_common::refusal::BAD_FRAME;
+use aec3_common::refusal::BAD_STATE;
 use erle_estimator::ErleEstimator;
 use erle_estimator::ErleSettings;
 use trace_records::Standing;
@@ -115,11 +116,19 @@ fn put_lines(
     }
 }
 
-// A refused record: its line, and the state as it was.
+// A refused record: its line, and the state as it was. Under number 20 the call is bad and not the record: nothing is written.
 fn refuse(t: Trace, refused: u32, out: &mut [u8], at: usize) -> Stepped
     requires { ⌜ at + 196 ≤ length (now out) ⌝ }
     ensures { λ a. ⌜ RefusedBy t refused (now (out .entry)) at (now (out .exit)) a ⌝ }
 {
+    if refused == BAD_STATE {
+        return Stepped {
+            state: t,
+            at,
+            refused,
+            fits: true,
+        };
+    }
     let at = put_refused(out, at, refused, one_more(t.records));
     Stepped {
         state: t,
@@ -138,6 +147,7 @@ pub fn put_bad_frame(out: &mut [u8], at: usize, records: u32) -> usize
 }
 
 // One record: its lines from a place on, and the next state; or, if it is refused, the line that says so, and the state as it was.
+// A state that number 20 turns away is a bad call: the answer says so, and nothing is written.
 pub fn step(t: Trace, record: &[u8], out: &mut [u8], at: usize) -> Stepped
     ensures { λ a. ⌜ a ≡ stepAnswer t (now («record» .entry)) (now (out .entry)) at ⌝ }
     ensures { λ _. ⌜ now (out .exit) ≡ stepOver t (now («record» .entry)) (now (out .entry)) at ⌝ }
