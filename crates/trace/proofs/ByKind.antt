@@ -7,7 +7,6 @@ use native.Mathlib.Omega.{arith}
 use borrow.Author.Tests.{ne-eqb, eqb-true, eqb-false}
 use lib.Dec.{eqb}
 use Rattle.aec3_common.specs.Refusal.{accepted, unknownKind}
-use Rattle.aec3_common.proofs.Choices.{cond-has}
 use Rattle.trace_records.specs.declared.judge.Standing.{Standing}
 use Rattle.trace_records.specs.Records.{kindOf, settingsKind, blockKind, resetKind, byKind}
 use Rattle.trace_records.specs.Judge.{formRefusal}
@@ -26,14 +25,6 @@ module _ {A : Type 0} (kind : ℕ) (x y : A) where
   pub not-block : (kind ≡ blockKind → ⊥) → byKind kind y x y y ≡ y
   unfolding byKind
   not-block other = rw (ne-eqb kind blockKind other, either (eqb kind resetKind) y, either (eqb kind settingsKind) y)
-
--- what all kinds have
-pub any-kind :
-    {A : Type 0} (kind : ℕ) (P : A → Type 0) {settings block reset other : A} → P settings → P block → P reset → P other
-    → P (byKind kind settings block reset other)
-unfolding byKind
-any-kind kind P s b r o =
-    cond-has P (eqb kind settingsKind) (λ e. s) (λ e. cond-has P (eqb kind blockKind) (λ e. b) (λ e. cond-has P (eqb kind resetKind) (λ e. r) (λ e. o)))
 
 -- a record whose form passes has one of the three kinds
 pub must-be-reset :

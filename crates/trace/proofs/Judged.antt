@@ -11,21 +11,19 @@ use lib.ListN.{length, getD}
 use Rattle.aec3_common.specs.Binary32.{zero32, greatestValue, within, valuesOk}
 use Rattle.aec3_common.specs.Calls.{lengthsOk, valuesInRange}
 use Rattle.aec3_common.specs.Lists.{tab, every}
-use Rattle.aec3_common.specs.Refusal.{unless, firstOf, accepted, badLimits, badChannelCount, badValue, badRecordLength, badFlagOrBand, badState, noSettings, secondSettings}
-use Rattle.aec3_common.specs.Settings.{headroomBlocks, limitsOk, captureChannelsOk, sectionsOk, limitsAndChannelsRefusal, sectionedSettingsRefusal, settingsRefusal}
-use Rattle.aec3_common.proofs.Choices.{passed, and-true, cond-has}
+use Rattle.aec3_common.specs.Refusal.{unless, firstOf, accepted, badValue}
+use Rattle.aec3_common.specs.Settings.{headroomBlocks, sectionsOk, limitsAndChannelsRefusal, sectionedSettingsRefusal, settingsRefusal}
+use Rattle.aec3_common.proofs.Choices.{passed, and-true}
 use Rattle.aec3_common.proofs.Every.{every-by}
 use Rattle.aec3_common.proofs.Tables.{length-tab, getD-tab}
 use Rattle.section_echoes.specs.Packed.{total}
 use Rattle.signal_dependent_erle_estimator.specs.SignalDependent.{ringRefusal, responsesOk}
 use Rattle.erle_estimator.specs.declared.ErleEstimator.{ErleEstimator}
 use Rattle.erle_estimator.specs.Erle.{stateOk, stateRefusal, lentLengthsOk, lentValuesOk, updateRefusal}
-use Rattle.trace_records.specs.declared.judge.Standing.{Standing}
-use Rattle.trace_records.specs.Records.{kindOf, settingsLength, blockLength, resetLength, onsetByte, bandIn, delayByte, settingsIn, flagsIn, renderIn, captureIn, residualIn}
-use Rattle.trace_records.specs.Judge.{stands, flagOk, bandOk, flagsOk, settingsForm, blockForm, resetForm, formRefusal, settingsValues, blockValues, valueRefusal, recordRefusal}
+use Rattle.trace_records.specs.Records.{settingsIn, flagsIn, renderIn, captureIn, residualIn}
+use Rattle.trace_records.specs.Judge.{settingsValues, blockValues}
 use Rattle.trace_records.proofs.Blocks.{length-flags, length-render, length-capture, length-residual}
 use Rattle.trace.specs.Apply.{silentRing, updateIn}
-use Rattle.trace.proofs.ByKind.{any-kind}
 
 -- a refusal, and nothing after it
 first-alone : (n : ℕ) → firstOf n accepted ≡ n
@@ -94,51 +92,3 @@ module _ (n : ℕ) (r : List ℕ) where
 pub reset-judged : (e : ErleEstimator) → stateOk e ≡ true → stateRefusal e ≡ accepted
 unfolding stateRefusal
 reset-judged e ok = rw ok
-
--- ---- number 20 turns no record away
-
-abbrev Other : ℕ → Type 0
-Other n = eqb n badState ≡ false
-
--- the chains of a form, of settings and of a block
-of-form : (n : ℕ) → Other n → (a b c : Bool) → Other (unless a n (unless b badRecordLength (unless c badFlagOrBand accepted)))
-of-form n e true true true = refl
-of-form n e true true false = refl
-of-form n e true false c = refl
-of-form n e false b c = e
-
-of-settings : (a b : Bool) → Other (unless a badLimits (unless b badChannelCount accepted))
-of-settings true true = refl
-of-settings true false = refl
-of-settings false b = refl
-
-of-block : (a : Bool) → Other (unless a badValue accepted)
-of-block true = refl
-of-block false = refl
-
-module _ (st : Standing) (r : List ℕ) where
-  abbrev n : ℕ
-  n = st .«num_capture_channels»
-
-  form-other : Other (formRefusal st r)
-  unfolding formRefusal settingsForm blockForm resetForm
-  form-other =
-      any-kind (kindOf r) Other
-      (of-form secondSettings refl (not (stands st)) (eqb (length r) settingsLength) (flagOk (onsetByte r) && bandOk (bandIn r)))
-      (of-form noSettings refl (stands st) (eqb (length r) (blockLength n)) (flagsOk n r))
-      (of-form noSettings refl (stands st) (eqb (length r) resetLength) (flagOk (delayByte r)))
-      refl
-
-  value-other : Other (valueRefusal st r)
-  unfolding valueRefusal settingsValues limitsAndChannelsRefusal blockValues
-  value-other =
-      let g = settingsIn r in
-      any-kind (kindOf r) Other
-      (of-settings (limitsOk (g .min) (g .«max_l») (g .«max_h»)) (captureChannelsOk (g .«num_capture_channels»)))
-      (of-block (valuesInRange (renderIn n r) (captureIn n r) (residualIn n r)))
-      refl
-      refl
-
-  pub record-other : eqb (recordRefusal st r) badState ≡ false
-  unfolding recordRefusal
-  record-other = cond-has Other (eqb (formRefusal st r) accepted) (λ e. value-other) (λ e. form-other)

@@ -1,26 +1,29 @@
 -- A run from the beginning: the estimator judges each record as the definition of the listing does.
 use mathlib.Core.Path.{_≡_, refl, sym, ap, _∙_, subst}
-use mathlib.Core.Bool.{Bool, true, false, cond, false≢true}
+use mathlib.Core.Bool.{Bool, true, false, cond, not, _&&_, false≢true}
 use mathlib.Core.List.{List}
 use Prim.Native.Nat.{ℕ, zero, suc, _≤_}
 use native.Mathlib.Omega.{arith}
 use borrow.Author.Tests.{eq-eqb, ne-eqb, eqb-true, eqb-false, le-leb}
 use lib.Dec.{eqb}
+use lib.ListN.{length}
 use Rattle.aec3_common.specs.declared.settings.ErleSettings.{ErleSettings}
-use Rattle.aec3_common.specs.Refusal.{accepted, firstOf}
-use Rattle.aec3_common.specs.Settings.{captureChannelsOk, settingsRefusal}
-use Rattle.aec3_common.proofs.Choices.{first-of-passed}
+use Rattle.aec3_common.specs.Calls.{valuesInRange}
+use Rattle.aec3_common.specs.Refusal.{accepted, badLimits, badChannelCount, badValue, unknownKind, badRecordLength, badFlagOrBand, noSettings, secondSettings, unless, firstOf}
+use Rattle.aec3_common.specs.Settings.{limitsOk, captureChannelsOk, limitsAndChannelsRefusal, settingsRefusal}
+use Rattle.aec3_common.proofs.Choices.{cond-has, first-of-passed}
 use Rattle.erle_estimator.specs.declared.ErleEstimator.{ErleEstimator}
 use Rattle.erle_estimator.specs.declared.ErleAnswer.{ErleAnswer}
 use Rattle.erle_estimator.specs.Erle.{stateOk, stateRefusal, startedWith, refusedSettings, startAnswer, updateAnswer, resetAnswer}
 use Rattle.erle_estimator.proofs.Good.{Good, good-ok, start-good, update-good, reset-good}
-use Rattle.trace_records.specs.Records.{kindOf, settingsKind, blockKind, resetKind, settingsIn, startupIn, delayChangedIn}
-use Rattle.trace_records.specs.Judge.{stands, formRefusal, valueRefusal, recordRefusal}
+use Rattle.trace_records.specs.declared.judge.Standing.{Standing}
+use Rattle.trace_records.specs.Records.{kindOf, settingsKind, blockKind, resetKind, byKind, settingsLength, blockLength, resetLength, onsetByte, delayByte, bandIn, settingsIn, startupIn, delayChangedIn, renderIn, captureIn, residualIn}
+use Rattle.trace_records.specs.Judge.{stands, flagOk, bandOk, flagsOk, settingsForm, blockForm, resetForm, settingsValues, blockValues, formRefusal, valueRefusal, recordRefusal}
 use Rattle.trace_records.proofs.Judged.{by-settings, by-block, by-reset, settings-judged, block-judged, nothing-judged, block-ok, reset-ok}
 use Rattle.trace.specs.declared.Trace.{Trace}
 use Rattle.trace.specs.Apply.{channelsOf, standingOf, beginning, updateIn, answerOf, nextOf}
 use Rattle.trace.specs.Listing.{refusalAt}
-use Rattle.trace.specs.Steps.{stepRefusal}
+use Rattle.trace.specs.Steps.{stepRefusal, blamesState}
 use Rattle.trace.proofs.ByKind.{must-be-reset}
 use Rattle.trace.proofs.Judged.{start-judged, update-judged, reset-judged}
 use Rattle.trace.proofs.Stepping.{either-keeps, update-keeps}
@@ -138,3 +141,50 @@ unfolding nextOf recordRefusal
 sound-next t r sound ok =
     let (form, values) = first-of-passed (formRefusal (standingOf (t .estimator)) r) (valueRefusal (standingOf (t .estimator)) r) ok in
     answer-sound (t .estimator) r form sound (answer-judged (t .estimator) r form sound ∙ values)
+
+-- ---- the numbers of records
+
+abbrev Blameless : ℕ → Type 0
+Blameless n = blamesState n ≡ false
+
+three-blameless : (a b c : Bool) (n : ℕ) → Blameless n → Blameless (unless a n (unless b badRecordLength (unless c badFlagOrBand accepted)))
+three-blameless true true true n e = refl
+three-blameless true true false n e = refl
+three-blameless true false c n e = refl
+three-blameless false b c n e = e
+
+two-blameless : (a b : Bool) → Blameless (unless a badLimits (unless b badChannelCount accepted))
+two-blameless true true = refl
+two-blameless true false = refl
+two-blameless false b = refl
+
+one-blameless : (a : Bool) → Blameless (unless a badValue accepted)
+one-blameless true = refl
+one-blameless false = refl
+
+kind-blameless :
+    (k settings block reset other : ℕ) → Blameless settings → Blameless block → Blameless reset → Blameless other
+    → Blameless (byKind k settings block reset other)
+unfolding byKind
+kind-blameless k settings block reset other s b r o =
+    cond-has Blameless (eqb k settingsKind) (λ e. s)
+    (λ e. cond-has Blameless (eqb k blockKind) (λ e. b) (λ e. cond-has Blameless (eqb k resetKind) (λ e. r) (λ e. o)))
+
+-- no record is judged under a number that blames the state
+pub never-blames : (st : Standing) (r : List ℕ) → blamesState (recordRefusal st r) ≡ false
+unfolding recordRefusal formRefusal valueRefusal settingsForm blockForm resetForm settingsValues limitsAndChannelsRefusal blockValues
+never-blames st r =
+    let n = st .«num_capture_channels» in
+    let g = settingsIn r in
+    let form =
+    kind-blameless (kindOf r) _ _ _ unknownKind
+    (three-blameless (not (stands st)) (eqb (length r) settingsLength) (flagOk (onsetByte r) && bandOk (bandIn r)) secondSettings refl)
+    (three-blameless (stands st) (eqb (length r) (blockLength n)) (flagsOk n r) noSettings refl)
+    (three-blameless (stands st) (eqb (length r) resetLength) (flagOk (delayByte r)) noSettings refl)
+    refl in
+    let value =
+    kind-blameless (kindOf r) _ _ accepted accepted
+    (two-blameless (limitsOk (g .min) (g .«max_l») (g .«max_h»)) (captureChannelsOk (g .«num_capture_channels»)))
+    (one-blameless (valuesInRange (renderIn n r) (captureIn n r) (residualIn n r)))
+    refl refl in
+    cond-has Blameless (eqb (formRefusal st r) accepted) (λ e. value) (λ e. form)

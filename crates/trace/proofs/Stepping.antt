@@ -17,11 +17,12 @@ use Rattle.trace_records.specs.Records.{kindOf, blockKind}
 use Rattle.trace_records.specs.Judge.{formRefusal}
 use Rattle.trace_records.proofs.Judged.{by-block}
 use Rattle.trace_text.specs.Text.{lines}
+use Rattle.trace_text.proofs.Lines.{lines-one}
 use Rattle.trace.specs.declared.Trace.{Trace}
 use Rattle.trace.specs.declared.steps.Stepped.{Stepped}
 use Rattle.trace.specs.Apply.{standingOf, updateIn, channelsOf, answerOf, nextOf, rowsOf}
-use Rattle.trace.specs.Listing.{refusedAt, itemsBy}
-use Rattle.trace.specs.Steps.{mostText, stepRefusal, textBy, stepText, stepAnswer, stepOver, RefusedBy}
+use Rattle.trace.specs.Listing.{itemsBy}
+use Rattle.trace.specs.Steps.{mostText, stepRefusal, stepText, stepAnswer, stepOver, refusalText, RefusedBy}
 
 -- an update keeps the settings
 pub either-keeps : (t : Bool) (x y : ErleEstimator) (g : ErleSettings) → x .settings ≡ g → y .settings ≡ g → cond t x y .settings ≡ g
@@ -54,6 +55,11 @@ module _ (t : Trace) (r : List ℕ) where
   unfolding stepRefusal
   by-answer e same = same ∙ sym (rw (eq-eqb _ _ e))
 
+  -- the line of a refusal
+  pub text-refused : {n : ℕ} → n ≡ stepRefusal t r → (n ≡ accepted → ⊥) → stepText t r ≡ refusalText (t .records) n
+  unfolding stepText itemsBy refusalText
+  text-refused {n} is some = rw (← is, ne-eqb n accepted some, lines-one)
+
   module _ (d : List ℕ) (at : ℕ) where
     -- without room nothing happens
     pub step-full :
@@ -66,13 +72,14 @@ module _ (t : Trace) (r : List ℕ) where
       pub step-refused :
           {n : ℕ} {a : Stepped} {e : List ℕ} → n ≡ stepRefusal t r → (n ≡ accepted → ⊥) → RefusedBy t n d at e a
           → (a ≡ stepAnswer t r d at) × (e ≡ stepOver t r d at)
-      unfolding stepAnswer stepOver stepText itemsBy
+      unfolding stepAnswer stepOver
       step-refused {n} is some by =
-          (by .answer ∙ sym (rw (room, ← is, ne-eqb n accepted some)), by .text ∙ sym (rw (room, ← is, ne-eqb n accepted some)))
+          let text = text-refused is some in
+          (by .answer ∙ sym (rw (room, text, ← is, ne-eqb n accepted some)), by .text ∙ sym (rw (room, text)))
 
       pub step-accepted :
           {u : Trace} {next : ℕ} {e : List ℕ} → stepRefusal t r ≡ accepted → u ≡ nextOf t r
           → (e ≡ laid d at (lines (rowsOf t r))) × (next ≡ at + length (lines (rowsOf t r)))
           → (record { state = u; refused = accepted; at = next; fits = true } ≡ stepAnswer t r d at) × (e ≡ stepOver t r d at)
-      unfolding stepAnswer stepOver stepText textBy itemsBy
+      unfolding stepAnswer stepOver stepText itemsBy
       step-accepted is next text = (sym (rw (room, is, next, text .1)), text .0 ∙ sym (rw (room, is)))

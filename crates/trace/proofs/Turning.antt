@@ -9,8 +9,8 @@ use lib.Dec.{eqb, leb}
 use lib.ListN.{length, take, drop, length-append, length-take, length-drop}
 use lib.Seq.{take-all, take-at, take-append-le, take-append-add, drop-drop, drop-length, length-take-le}
 use Rattle.aec3_common.specs.Lists.{tab}
-use Rattle.aec3_common.specs.Refusal.{accepted, badFrame, badState}
-use Rattle.aec3_common.proofs.Choices.{first-of-passed, cond-has}
+use Rattle.aec3_common.specs.Refusal.{accepted, badFrame}
+use Rattle.aec3_common.proofs.Choices.{first-of-passed}
 use Rattle.encoding.specs.Text.{laid, written, after}
 use Rattle.encoding.proofs.Writing.{Wrote, wrote, wrote-then, wrote-long, wrote-none, wrote-front}
 use Rattle.trace_records.specs.Frames.{Frame, whole, bad, frames, framed, lengthIn, recordIn, frameLength}
@@ -26,14 +26,13 @@ use Rattle.trace.specs.declared.listing.Turn.{Turn}
 use Rattle.trace.specs.declared.listing.Listed.{Listed}
 use Rattle.trace.specs.Apply.{channelsOf, standingOf, beginning, answerOf, nextOf, rowAt, rowsIf, rowsOf}
 use Rattle.trace.specs.Listing.{refusedAt, itemsBy, refusalAt, itemsOf, remaining, listing, listedAnswer, listedOver}
-use Rattle.trace.specs.Steps.{mostText, stepRefusal, textBy, stepText, stepAnswer, stepOver}
+use Rattle.trace.specs.Steps.{mostText, stepRefusal, blamesState, stepText, stepAnswer, stepOver}
 use Rattle.trace.specs.Turns.{turnText, goesOn, Turned, cutOver, cutAnswer}
 use Rattle.trace.proofs.ByKind.{not-block}
 use Rattle.trace.proofs.Lines.{lines-short}
 use Rattle.trace.proofs.Room.{room-behind}
-use Rattle.trace.proofs.Judged.{record-other}
 use Rattle.trace.proofs.Stepping.{block-keeps}
-use Rattle.trace.proofs.Running.{Sound, sound-beginning, step-judged, sound-next}
+use Rattle.trace.proofs.Running.{Sound, sound-beginning, step-judged, sound-next, never-blames}
 
 -- ---- how long the lines of a record are
 
@@ -56,17 +55,14 @@ module _ (t : Trace) (r : List ℕ) where
           let rows = rowAt after (nextOf t r .band) (nextOf t r .blocks) in
           rw (not-block (kindOf r) (tab (channelsOf after) rows) [] (eqb-false (kindOf r) blockKind q)) (omega arith)
 
-  items-short : length (lines (itemsBy (stepRefusal t r) t r)) ≤ 196
-  unfolding itemsBy
-  items-short = go (eqb (stepRefusal t r) accepted) refl
-    where
-      go : (b : Bool) → eqb (stepRefusal t r) accepted ≡ b → length (lines (itemsBy (stepRefusal t r) t r)) ≤ 196
-      go true q = rw q (rows-short (eqb-true (stepRefusal t r) accepted q))
-      go false q = rw (q, lines-one) (omega (arith, line-short (refusedAt t (stepRefusal t r))))
-
   pub text-short : length (stepText t r) ≤ 196
-  unfolding stepText textBy
-  text-short = cond-has (λ l. length l ≤ 196) (eqb (stepRefusal t r) badState) {x = []} (λ q. omega arith) (λ q. items-short)
+  unfolding stepText itemsBy
+  text-short = go (blamesState (stepRefusal t r)) refl (eqb (stepRefusal t r) accepted) refl
+    where
+      go : (a : Bool) → blamesState (stepRefusal t r) ≡ a → (b : Bool) → eqb (stepRefusal t r) accepted ≡ b → length (stepText t r) ≤ 196
+      go true p b q = rw p (omega arith)
+      go false p true q = rw (p, q) (rows-short (eqb-true (stepRefusal t r) accepted q))
+      go false p false q = rw (p, q, lines-one) (omega (arith, line-short (refusedAt t (stepRefusal t r))))
 
 pub turn-short : (t : Trace) (s : List ℕ) → length (turnText t s) ≤ 196
 unfolding turnText
@@ -216,8 +212,9 @@ module _ {t : Trace} {s text : List ℕ} {a : Turn} (sound : Sound (t .estimator
   module _ (f : framed s ≡ true) where
     -- the lines of a whole record
     front : lines (itemsBy (refusalAt t (recordIn s)) t (recordIn s)) ≡ take (a .length) text
-    unfolding turnText stepText textBy
-    front = sym (turned .front ∙ rw (f, step-judged t (recordIn s) sound, record-other (standingOf (t .estimator)) (recordIn s)))
+    unfolding turnText stepText
+    front =
+        sym (turned .front ∙ rw (f, step-judged t (recordIn s) sound, never-blames (standingOf (t .estimator)) (recordIn s)))
 
     left-refused : eqb (stepRefusal t (recordIn s)) accepted ≡ false → Left t s text a
     unfolding goesOn

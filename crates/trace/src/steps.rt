@@ -5,6 +5,7 @@ use crate::rows::put_rows;
 use aec3_common::counts::one_more;
 use aec3_common::refusal::ACCEPTED;
 use aec3_common::refusal::BAD_FRAME;
+use aec3_common::refusal::BAD_RING;
 use aec3_common::refusal::BAD_STATE;
 use erle_estimator::ErleEstimator;
 use erle_estimator::ErleSettings;
@@ -25,7 +26,7 @@ ghost use Rattle.encoding.specs.Text.{laid, written, after};
 ghost use Rattle.trace_records.specs.Records.{kindOf, blockKind};
 ghost use Rattle.trace_text.specs.Text.{refused, line, lines};
 ghost use Rattle.trace.specs.Apply.{beginning as Apply·beginning, channelsOf, bandAfter, blocksAfter, rowsIf};
-ghost use Rattle.trace.specs.Steps.{RefusedBy, stepAnswer, stepOver};
+ghost use Rattle.trace.specs.Steps.{refusalText, RefusedBy, stepAnswer, stepOver};
 
 // The longest lines that a record gives: a row for each of four channels.
 pub const MOST_TEXT: usize = 196;
@@ -116,20 +117,25 @@ fn put_lines(
     }
 }
 
-// A refused record: its line, and the state as it was. Under number 20 the call is bad and not the record: nothing is written.
+// The line of a refused record, behind so many records; none where the state is to blame.
+fn put_refusal(out: &mut [u8], at: usize, refused: u32, records: u32) -> usize
+    requires { ⌜ at + 196 ≤ length (now out) ⌝ }
+    ensures { λ _. ⌜ now (out .exit) ≡ laid (now (out .entry)) at (refusalText records refused) ⌝ }
+    ensures { λ r. ⌜ r ≡ at + length (refusalText records refused) ⌝ }
+{
+    if (refused == BAD_STATE) | (refused == BAD_RING) {
+        at
+    } else {
+        put_refused(out, at, refused, one_more(records))
+    }
+}
+
+// A refused record: its line, and the state as it was.
 fn refuse(t: Trace, refused: u32, out: &mut [u8], at: usize) -> Stepped
     requires { ⌜ at + 196 ≤ length (now out) ⌝ }
     ensures { λ a. ⌜ RefusedBy t refused (now (out .entry)) at (now (out .exit)) a ⌝ }
 {
-    if refused == BAD_STATE {
-        return Stepped {
-            state: t,
-            at,
-            refused,
-            fits: true,
-        };
-    }
-    let at = put_refused(out, at, refused, one_more(t.records));
+    let at = put_refusal(out, at, refused, t.records);
     Stepped {
         state: t,
         at,
@@ -146,8 +152,8 @@ pub fn put_bad_frame(out: &mut [u8], at: usize, records: u32) -> usize
     put_refused(out, at, BAD_FRAME, one_more(records))
 }
 
-// One record: its lines from a place on, and the next state; or, if it is refused, the line that says so, and the state as it was.
-// A state that number 20 turns away is a bad call: the answer says so, and nothing is written.
+// One record: its lines from a place on, and the next state; or, if it is refused, the line that says so, and the state as it was. Under
+// 20 nothing is written: the call is bad, and no record is to blame.
 pub fn step(t: Trace, record: &[u8], out: &mut [u8], at: usize) -> Stepped
     ensures { λ a. ⌜ a ≡ stepAnswer t (now («record» .entry)) (now (out .entry)) at ⌝ }
     ensures { λ _. ⌜ now (out .exit) ≡ stepOver t (now («record» .entry)) (now (out .entry)) at ⌝ }
