@@ -148,7 +148,7 @@ fn pieces_are_put_together() {
 #[test]
 fn the_stored_traces_are_small() {
     let (input, lines) = stored::packed();
-    assert!(input.len() + lines.len() < 400_000);
+    assert!(input.len() + lines.len() < 800_000);
     let traces = stored::traces();
     assert!(traces.iter().all(|trace| trace.bytes.len() <= 65_536));
     let refused = traces.iter().filter_map(|t| refusal(&listing(&t.bytes)));

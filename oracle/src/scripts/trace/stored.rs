@@ -72,17 +72,14 @@ fn short(channels: u8, onset: bool) -> Script {
     script
 }
 
-/// Settings, a reset, a block and a reset, cut before each byte up to the block's
-/// first power, then before every 17th byte, and before each of the last ones.
+/// Settings, a reset, a block and a reset, cut so that each number of bytes is left
+/// once, from one to all.
 fn cuts() -> Vec<Script> {
     let mut script = settled(&EXAMPLE);
     script.delay(DelayChanged(false));
-    let head = script.bytes.len() + 12;
     script.block(&converged(1, LOUD, 3.0, 1.0));
     script.delay(DelayChanged(true));
-    let size = script.bytes.len();
-    let ends = (1..head).chain((head..size - 12).step_by(17));
-    ends.chain(size - 12..=size)
+    (1..=script.bytes.len())
         .map(|end| script.cut(end))
         .collect()
 }
