@@ -200,7 +200,7 @@ erleShown g subband signal onsetCompensated =
     (erleOf (signal .erle) (signal .«erle_onset_compensated») onsetCompensated (g .«onset_detection»))
     (erleOf (subband .erle) (subband .«erle_onset_compensated») onsetCompensated (g .«onset_detection»))
 
--- A channel's streams: what `erle` answers, not asked and asked for the compensated one; the uncapped answer, which with two or more
+-- A channel's streams: what `erle` answers, without and with the compensated stream asked for; the uncapped answer, which with two or more
 -- sections is the signal-dependent plain stream; the onset values, always the subband part's.
 unfoldable pub streamsShown : ErleSettings → SubbandChannel → SignalDependentChannel → ErleStreams
 streamsShown g subband signal =

@@ -5,3 +5,4 @@ pub mod Lines
 pub mod Stepping
 pub mod Running
 pub mod Turning
+pub mod StepsListed

@@ -1,4 +1,5 @@
 pub mod Apply
 pub mod Listing
 pub mod Steps
+pub mod Stepping
 pub mod Turns

@@ -18,7 +18,7 @@ use Rattle.trace.specs.Apply.{standingOf, beginning, nextOf, rowsOf}
 abbrev pub refusedAt : Trace → ℕ → Item
 refusedAt t number = refused number (oneMore (t .records))
 
--- what a record gives that is judged so: its rows, or that it is refused
+-- what a record gives, by the number that it was judged with: its rows, or that it is refused
 unfoldable pub itemsBy : ℕ → Trace → List ℕ → List Item
 itemsBy number t r = cond (eqb number accepted) (rowsOf t r) (refusedAt t number ∷ [])
 

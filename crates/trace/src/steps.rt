@@ -153,7 +153,7 @@ pub fn put_bad_frame(out: &mut [u8], at: usize, records: u32) -> usize
 }
 
 // One record: its lines from a place on, and the next state; or, if it is refused, the line that says so, and the state as it was. Under
-// 20 nothing is written: the call is bad, and no record is to blame.
+// 20 or 4 nothing is written: the state is to blame, and no record. Without room for 196 bytes nothing happens, and `fits` is false.
 pub fn step(t: Trace, record: &[u8], out: &mut [u8], at: usize) -> Stepped
     ensures { λ a. ⌜ a ≡ stepAnswer t (now («record» .entry)) (now (out .entry)) at ⌝ }
     ensures { λ _. ⌜ now (out .exit) ≡ stepOver t (now («record» .entry)) (now (out .entry)) at ⌝ }

@@ -29,8 +29,8 @@ fn move_to_front(input: &mut [u8], from: usize, to: usize)
     }
 }
 
-// Moves the bytes from one place to another to the front, and reads more behind them; the place where they end. It is as many bytes
-// on as there were where the input has ended or cannot be read.
+// Moves the bytes from one place to another to the front, and reads more behind them. Answers where the bytes then end; if the input
+// has ended or cannot be read, there are no more than before.
 fn read_more(input: &mut [u8], from: usize, to: usize) -> usize
     requires { ⌜ (from ≤ to) × (to ≤ length (now input)) ⌝ }
     ensures { λ r. ⌜ (to - from ≤ r) × (r ≤ length (now (input .exit))) ⌝ }
@@ -115,8 +115,8 @@ fn finish(out: &mut [u8], at: usize, cut_short: bool, records: u32) {
     }
 }
 
-// Lists the records of standard input; the text of out before a place is not written yet. The turns are counted down, since nothing
-// says that an input ends.
+// Lists the records of standard input; the text in `out` before `at` is not written yet. The turns are counted down from a number that no
+// run uses up, since nothing says that an input ends.
 fn run(input: &mut [u8], out: &mut [u8]) {
     let mut t = trace::beginning();
     let mut at = trace_text::put_header(out, 0);
@@ -133,7 +133,7 @@ fn run(input: &mut [u8], out: &mut [u8]) {
         from = start + held.length;
         to = held.to;
         let stepped = trace::step(t, &input[start..from], out, at);
-        if stepped.refused != 0 {
+        if (stepped.refused != 0) | !stepped.fits {
             return finish(out, stepped.at, false, 0);
         }
         t = stepped.state;

@@ -36,7 +36,7 @@ settingsForm st r =
     (unless (flagOk (onsetByte r) && bandOk (bandIn r)) badFlagOrBand
     accepted))
 
--- a record that needs settings before it, of the right length and with good flags
+-- the number for a record that needs settings before it: 22, 12, 13 or 0
 abbrev pub underSettings : Standing → Bool → Bool → ℕ
 underSettings st long flags =
     unless (stands st) noSettings

@@ -93,7 +93,7 @@ pub fn delay_changed_in(record: &[u8]) -> bool
 }
 
 // The L of a block, for a count of channels that is in its range.
-pub fn block_length(num_capture_channels: usize) -> usize
+pub(crate) fn block_length(num_capture_channels: usize) -> usize
     requires { ⌜ «num_capture_channels» ≤ 4 ⌝ }
     ensures { λ r. ⌜ r ≡ blockLength «num_capture_channels» ⌝ }
 {

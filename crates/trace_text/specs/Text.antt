@@ -5,7 +5,7 @@ use lib.Ieee.{Float, binary32, toBits}
 use Rattle.encoding.specs.Text.{decimal, hex8}
 
 -- What a line says: a channel's figures after a block, with the block's number, the channel, and the plain, compensated and uncapped
--- figure; or that a record is refused, with the number under which it is and the record's own.
+-- figure; or that a record is refused, with the refusal's number and the record's number in the trace.
 pub data Item : Type 0 where
   row : (block channel : ℕ) (plain compensated uncapped : Float) → Item
   refused : (number recordNumber : ℕ) → Item

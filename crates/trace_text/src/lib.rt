@@ -1,4 +1,4 @@
-// The lines of a listing, each written over a lent slice from a place on: all of it and the place after it, or, where there is no
+// The lines of a listing, each written over a lent slice from a place on: all of it, answering the place after it, or, where there is no
 // room for all, nothing and the same place. No public function asks anything of its caller.
 use encoding::bits_of;
 use encoding::put_bytes;

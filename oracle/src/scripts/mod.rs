@@ -116,7 +116,7 @@ pub fn stored_sample(program: Program) -> Script {
     match program {
         Program::Replay => sample::script(),
         Program::ReplayParts => parts_sample::script(),
-        Program::TracePrinter => trace::sample(),
+        Program::TracePrinter => trace::stored::cut_off(),
     }
 }
 

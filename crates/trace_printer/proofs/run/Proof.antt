@@ -26,8 +26,8 @@ same-out c = c .step .kept .1 .1 .0 ∙ c .before .before .before .before .befor
 
 loop-again : tie.Need-loop-again Inv-loop μ-loop
 loop-again c =
-    let next = c .before .before .before .before .before .before .before .before .before .before .before .before .before .before .before .before .before .before .before in
-    (whole (c .before .before .before .before .before .before .before .before .before .before .before .before .before .before .before), next .next-record .ensures .within, same-input next, same-out (c .before .before .before .before .before .before .before .before .before))
+    let next = c .before .before .before .before .before .before .before .before .before .before .before .before .before .before .before .before .before .before .before .before in
+    (whole (c .before .before .before .before .before .before .before .before .before .before .before .before .before .before .before .before), next .next-record .ensures .within, same-input next, same-out (c .before .before .before .before .before .before .before .before .before .before))
 
 pub run-spec : {M : Type 1} → statement M
 run-spec =
@@ -51,14 +51,14 @@ run-spec =
     (λ c. omega (arith, whole (c .before .before .before), c .before .before .before .before .before .before .before .next-record .ensures .within))
     (λ c κs. search needs)
     (λ c κs. search needs)
-    (λ c. same-input (c .before .before .before .before .before .before .before .before .before .before .before .before .before .before .before .before .before .before))
-    (λ c. c .before .before .finish2 .kept .0 ∙ same-out (c .before .before .before .before .before .before .before .before) ∙ c .before .before .before .before .before .before .before .before .before .before .before .before .before .before .before .before .before .before .before .before .before .before .before .before .put-header .kept .0)
+    (λ c. same-input (c .before .before .before .before .before .before .before .before .before .before .before .before .before .before .before .before .before .before .before))
+    (λ c. c .before .before .finish2 .kept .0 ∙ same-out (c .before .before .before .before .before .before .before .before .before) ∙ c .before .before .before .before .before .before .before .before .before .before .before .before .before .before .before .before .before .before .before .before .before .before .before .before .before .put-header .kept .0)
     (λ c. search needs)
     (λ c κs. search needs)
-    (λ c. same-input (c .before .before .before .before .before .before .before .before .before .before .before .before .before .before .before .before .before .before .before))
-    (λ c. same-out (c .before .before .before .before .before .before .before .before .before) ∙ c .before .before .before .before .before .before .before .before .before .before .before .before .before .before .before .before .before .before .before .before .before .before .before .before .before .put-header .kept .0)
+    (λ c. same-input (c .before .before .before .before .before .before .before .before .before .before .before .before .before .before .before .before .before .before .before .before))
+    (λ c. same-out (c .before .before .before .before .before .before .before .before .before .before) ∙ c .before .before .before .before .before .before .before .before .before .before .before .before .before .before .before .before .before .before .before .before .before .before .before .before .before .before .put-header .kept .0)
     (λ c. search needs)
-    (λ c. omega (arith, c .before .before .before .before .before .before .before .before .before .before .before .before .before .before .before .before .before .before .before .before .before .loop-test .taken))
+    (λ c. omega (arith, c .before .before .before .before .before .before .before .before .before .before .before .before .before .before .before .before .before .before .before .before .before .before .loop-test .taken))
     loop-again
     (λ c. search needs)
     (λ c. search needs)

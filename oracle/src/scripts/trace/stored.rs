@@ -4,7 +4,7 @@
 use super::damaged::{sorts, Sort};
 use super::draft::Draft;
 use super::random::Manner;
-use super::{sample, settled, Script, Settings, EXAMPLE};
+use super::{sample, settled, shown, Script, Settings, EXAMPLE};
 use crate::judge::CAPTURE_CHANNELS;
 use crate::kinds::erle::DelayChanged;
 use crate::program::Program;
@@ -18,6 +18,13 @@ use crate::trace::records::{LENGTHS, SETTINGS};
 
 /// Larger bad traces are left out, but for one.
 const LARGE: usize = 4_000;
+
+/// The stored input of the printer: longer than its buffer, and cut off in the middle
+/// of the last record.
+pub fn cut_off() -> Script {
+    let shown = shown();
+    shown.cut(shown.bytes.len() - 100)
+}
 
 /// The traces one behind the other, each with its length in four bytes before it,
 /// and their listings one behind the other.
