@@ -231,7 +231,7 @@ fn the_samples_are_small() {
     for (program, script_bytes, line_bytes) in [
         (Program::Replay, 700_000, 750_000),
         (Program::ReplayParts, 350_000, 1_500_000),
-        (Program::TracePrinter, 5_000, 300),
+        (Program::TracePrinter, 300_000, 20_000),
     ] {
         let script = stored_sample(program);
         assert!(script.bytes.len() <= script_bytes);
