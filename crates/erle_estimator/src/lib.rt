@@ -1,7 +1,7 @@
 // The whole ERLE estimator: subband, signal-dependent and fullband under one set of settings and one block count.
 mod judge;
-mod moves;
-mod parts;
+pub mod moves;
+pub mod parts;
 mod streams;
 
 use aec3_common::counts::one_more;
@@ -107,7 +107,7 @@ impl ErleEstimator {
     }
 
     // Whether number 20 lets the state pass.
-    fn ok(self) -> bool
+    pub fn ok(self) -> bool
         ensures { λ r. ⌜ r ≡ stateOk self ⌝ }
     {
         let settings = self.settings;

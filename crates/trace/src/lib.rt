@@ -1,7 +1,7 @@
 // A trace: what each record does to the estimator, and the listing. No public function asks anything of its caller.
 mod answers;
 pub mod listing;
-mod rows;
+pub mod rows;
 pub mod steps;
 
 use erle_estimator::ErleEstimator;

@@ -15,7 +15,7 @@ ghost use Rattle.trace_text.specs.Text.{line, lines};
 ghost use Rattle.trace.specs.Apply.{rowOf, rowAt};
 
 // The figure of a band; there is none beyond the last.
-fn figure_at(stream: &[f32], band: usize) -> f32
+pub fn figure_at(stream: &[f32], band: usize) -> f32
     ensures { λ r. ⌜ r ≡ getD (now (stream .entry)) band nan ⌝ }
 {
     if band < stream.len() {

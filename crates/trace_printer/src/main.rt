@@ -125,6 +125,14 @@ fn run(input: &mut [u8], out: &mut [u8]) {
     let mut turns = u64::MAX;
     while turns > 0 {
         turns -= 1;
+        let blocks = trace_blocks::step_blocks(t, &input[from..to], out, at);
+        t = blocks.state;
+        from += blocks.used;
+        let flushed = flush(out, blocks.at);
+        if !flushed.ok {
+            return;
+        }
+        at = flushed.at;
         let held = next_record(input, from, to);
         if held.length == 0 {
             return finish(out, at, held.from < held.to, t.records);
@@ -133,15 +141,11 @@ fn run(input: &mut [u8], out: &mut [u8]) {
         from = start + held.length;
         to = held.to;
         let stepped = trace::step(t, &input[start..from], out, at);
+        at = stepped.at;
         if (stepped.refused != 0) | !stepped.fits {
-            return finish(out, stepped.at, false, 0);
+            return finish(out, at, false, 0);
         }
         t = stepped.state;
-        let flushed = flush(out, stepped.at);
-        if !flushed.ok {
-            return;
-        }
-        at = flushed.at;
     }
 }
 

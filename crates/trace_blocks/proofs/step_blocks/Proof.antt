@@ -1,0 +1,392 @@
+-- The outer loop walks on by one block, the inner one moves its channels and writes their rows.
+use borrow.Author.Needs.{needs}
+use borrow.Author.Tests.{leb-true, ltb-true, not-false}
+use mathlib.Core.Path.{_≡_, refl, sym, ap, _∙_}
+use mathlib.Core.Bool.{Bool, true, false, _&&_}
+use mathlib.Core.List.{List}
+use Prim.Native.Nat.{ℕ, _+_, _-_, _*_, _≤_, _<_}
+use native.Mathlib.Omega.{arith}
+use lib.Dec.{leb, ltb}
+use lib.ListN.{length, getD, take, drop}
+use lib.Seq.{length-take-le, getD-take}
+use Rattle.aec3_common.specs.declared.settings.ErleSettings.{ErleSettings}
+use Rattle.aec3_common.specs.Binary32.{greatestValue, within, valuesOk}
+use Rattle.aec3_common.specs.Calls.{valuesInRange}
+use Rattle.aec3_common.specs.Counts.{oneMore}
+use Rattle.aec3_common.specs.Lists.{tab}
+use Rattle.aec3_common.specs.Spectra.{part}
+use Rattle.aec3_common.proofs.Bands.{part-length, part-every}
+use Rattle.aec3_common.proofs.Choices.{each-of-three}
+use Rattle.aec3_common.proofs.Tables.{length-mapped, stored-not-yet}
+use Rattle.encoding.specs.Text.{laid}
+use Rattle.encoding.proofs.Writing.{wrote-long}
+use Rattle.subband_erle_estimator.specs.declared.channel.SubbandChannel.{SubbandChannel}
+use Rattle.subband_erle_estimator.proofs.Judged.{points-few}
+use Rattle.fullband_erle_estimator.specs.FullBand.{minLog2}
+use Rattle.fullband_erle_estimator.proofs.Judged.{min-above, settings-passed as FullBand·settings-passed, channel-passed}
+use Rattle.erle_estimator.specs.declared.ErleEstimator.{ErleEstimator}
+use Rattle.erle_estimator.specs.Parts.{fullbandSettings, subbandPart, fullbandPart}
+use Rattle.erle_estimator.specs.Erle.{Update, stateOk, counted, updated}
+use Rattle.erle_estimator.proofs.Judged.{subband-passed, fullband-passed}
+use Rattle.trace_records.specs.Frames.{lengthIn, recordIn}
+use Rattle.trace_records.specs.Records.{blockIn, flagsIn, renderIn, captureIn, residualIn}
+use Rattle.trace_records.proofs.Blocks.{Tables, block-tables, length-flags, length-render, length-capture, length-residual}
+use Rattle.trace_records.proofs.Judged.{BlockOk}
+use Rattle.trace_text.specs.Text.{lines}
+use Rattle.trace.specs.declared.Trace.{Trace}
+use Rattle.trace.specs.Apply.{channelsOf, standingOf, updateIn, rowAt}
+use Rattle.trace_blocks.specs.Blocks.{Walk, Steps, BlocksStepped, Plain, subbandRow}
+use Rattle.trace_blocks.proofs.InPlace.{steps-none, each-of-these, plain-ahead, plain-ends, record-ahead, block-form, block-stepped, walk-on, row-is}
+use Rattle.trace.proofs.Lines.{Listing, listing-none, listing-more}
+use Rattle.trace_blocks.proofs.Moving.{Moving, subbandAt, fullbandAt, moving-none, moving-more, moving-all, moving-ok, subband-moved, fullband-moved}
+use Rattle.trace_blocks.proofs.step_blocks.Statement.{statement}
+use Rattle.trace_blocks.proofs.step_blocks.Tie as tie
+
+abbrev Inv-loop2 : tie.InvT-loop2
+Inv-loop2 input out₀ at band estimator₀ blocks records state-ok₀ at₀ used settings counted started l n start end flags x2 y2 e2 count subband-part min-erle-log2 loud ch₀ out estimator state-ok at' ch =
+    let u = updateIn n (recordIn (drop used input)) in
+    Moving estimator₀ u estimator ch state-ok × Listing n (rowAt (updated estimator₀ u) band blocks) out₀ at₀ ch out at'
+
+abbrev μ-loop2 : tie.MeasureT-loop2
+μ-loop2 input out₀ at band estimator₀ blocks records state-ok₀ at₀ used settings counted started l n start end flags x2 y2 e2 count subband-part min-erle-log2 loud ch₀ out estimator state-ok at' ch =
+    n - ch
+
+-- where a walk stands, by its parts
+abbrev walk : ErleEstimator → (band blocks records used : ℕ) → List ℕ → ℕ → Walk
+walk estimator band blocks records used out at =
+    record { state = record { estimator = estimator; band = band; blocks = blocks; records = records }; used = used; out = out; at = at }
+
+abbrev Inv-loop : tie.InvT-loop
+Inv-loop input out₀ at band estimator₀ blocks₀ records₀ state-ok₀ at₀ used₀ out estimator blocks records state-ok at' used =
+    Steps input (walk estimator₀ band blocks₀ records₀ 0 out₀ at₀) (walk estimator band blocks records used out at')
+    × (used ≤ length input) × (length out ≡ length out₀) × (state-ok ≡ true → stateOk estimator ≡ true)
+    × (length (estimator .subband) ≡ 4) × (length (estimator .fullband) ≡ 4)
+
+abbrev μ-loop : tie.MeasureT-loop
+μ-loop input out₀ at band estimator₀ blocks₀ records₀ state-ok₀ at₀ used₀ out estimator blocks records state-ok at' used =
+    length input - used
+
+loop-holds : tie.Need-loop-holds Inv-loop2 μ-loop2 Inv-loop μ-loop
+loop-holds c = (steps-none _ _, omega arith, refl, λ e. sym (c .ok .ensures) ∙ e, search (needs, length-mapped), search (needs, length-mapped))
+
+returns : tie.Need-returns Inv-loop2 μ-loop2 Inv-loop μ-loop
+unfolding BlocksStepped
+returns c = (c .before .before .before .before .before .before .loop .inv .0, c .before .before .before .before .before .before .loop .inv .1)
+
+returns-2 : tie.Need-returns-2 Inv-loop2 μ-loop2 Inv-loop μ-loop
+unfolding BlocksStepped
+returns-2 c = (c .before .before .before .before .before .before .before .before .before .before .before .before .before .before .before .before .before .loop .inv .0, c .before .before .before .before .before .before .before .before .before .before .before .before .before .before .before .before .before .loop .inv .1)
+
+-- ---- a turn: the tests that it has passed
+
+abbrev Turn : Type 0
+Turn = tie.Else1 Inv-loop2 μ-loop2 Inv-loop μ-loop
+
+abbrev before : Turn → Trace
+before c = record { estimator = c .before .before .before .before .before .before .loop .estimator; band = c .before .before .before .before .before .before .before .before .before .before .before .args .t .band; blocks = c .before .before .before .before .before .before .loop .blocks; records = c .before .before .before .before .before .before .loop .records }
+
+abbrev ahead : Turn → List ℕ
+ahead c = drop (c .before .before .before .before .before .before .loop .used) (c .before .before .before .before .before .before .before .before .before .before .before .args .input .now)
+
+tests :
+    (c : Turn)
+    → (c .before .before .before .before .before .before .loop .state-ok ≡ true)
+    × (leb (before c .estimator .«startup_phase_length_blocks») (c .before .before .before .before .one-more .result) ≡ true)
+    × (ltb 0 (c .before .before .plain-length .result) ≡ true)
+    × (c .before .has-room .result ≡ true)
+tests c = each-of-these _ _ _ _ (not-false _ (c .if1 .left))
+
+passes : (c : Turn) → stateOk (before c .estimator) ≡ true
+passes c = c .before .before .before .before .before .before .loop .inv .3 (tests c .0)
+
+started : (c : Turn) → before c .estimator .«startup_phase_length_blocks» ≤ oneMore (before c .estimator .«blocks_since_reset»)
+started c = omega (arith, leb-true (before c .estimator .«startup_phase_length_blocks») (c .before .before .before .before .one-more .result) (tests c .1), c .before .before .before .before .one-more .ensures)
+
+plain : (c : Turn) → Plain (before c .estimator .settings) (ahead c) (c .before .before .plain-length .result)
+plain c = plain-ahead (c .before .before .before .before .before .before .before .before .before .before .before .args .input .now) (c .before .before .before .before .before .before .loop .used) (c .before .before .plain-length .ensures (ltb-true _ _ (tests c .2)))
+
+room : (c : Turn) → leb (c .before .before .before .before .before .before .loop .at + 196) (length (c .before .before .before .before .before .before .loop .out)) ≡ true
+room c = sym (c .before .has-room .ensures) ∙ tests c .3
+
+form : (c : Turn) → BlockOk (standingOf (before c .estimator)) (recordIn (ahead c))
+form c = block-form (before c) (ahead c) (plain c)
+
+few : (c : Turn) → channelsOf (before c .estimator) ≤ 4
+few c = form c .few
+
+ends : (c : Turn) → c .before .before .before .before .before .before .loop .used + 4 + c .before .before .plain-length .result ≤ length (c .before .before .before .before .before .before .before .before .before .before .before .args .input .now)
+ends c = plain-ends (c .before .before .before .before .before .before .before .before .before .before .before .args .input .now) (c .before .before .before .before .before .before .loop .used) (c .before .before .before .before .before .before .loop .inv .1) (plain c)
+
+-- ---- the block
+
+tables : (c : tie.After-block-in Inv-loop2 μ-loop2 Inv-loop μ-loop) → Tables (channelsOf (before (c .before .before) .estimator)) (recordIn (ahead (c .before .before))) (c .block-in .result)
+tables c =
+    let turn = c .before .before in
+    block-tables _ _ _ (few turn) (form turn .long)
+    (c .block-in .ensures ∙ ap (blockIn (channelsOf (before turn .estimator))) (record-ahead (c .before .before .before .before .before .before .before .before .before .before .before .before .before .args .input .now) (c .before .before .before .before .before .before .before .before .loop .used) (plain turn .long)))
+
+render-long : (c : tie.After-block-in Inv-loop2 μ-loop2 Inv-loop μ-loop) → length (c .block-in .result .x2) ≡ 65
+render-long c = ap length (tables c .render) ∙ length-render (channelsOf (before (c .before .before) .estimator)) (recordIn (ahead (c .before .before)))
+
+values :
+    (c : tie.Else2 Inv-loop2 μ-loop2 Inv-loop μ-loop)
+    → let n = channelsOf (before (c .before .before .before .before .before .before .before .before .before .before .before) .estimator) in
+    let r = recordIn (ahead (c .before .before .before .before .before .before .before .before .before .before .before)) in
+    valuesInRange (renderIn n r) (captureIn n r) (residualIn n r) ≡ true
+values c =
+    let t = tables (c .before .before .before .before .before .before .before .before .before) in
+    rw (← t .render, ← t .capture, ← t .residual) (sym (c .before .all-values-ok .ensures) ∙ not-false _ (c .if2 .left))
+
+min-erle-log2-requires : tie.Need-min-erle-log2-requires Inv-loop2 μ-loop2 Inv-loop μ-loop
+min-erle-log2-requires c κs =
+    let e = before (c .before .before .before .before .before .before .before .before .before .before .before .before .before) .estimator in
+    rw (c .fullband-settings .ensures) (min-above (fullbandSettings (e .settings)) (FullBand·settings-passed (fullbandPart e) (fullband-passed e (passes (c .before .before .before .before .before .before .before .before .before .before .before .before .before)))))
+
+-- ---- the channels
+
+loop2-holds : tie.Need-loop2-holds Inv-loop2 μ-loop2 Inv-loop μ-loop
+loop2-holds c =
+    let turn = c .before .before .before .before .before .before .before .before .before .before .before .before .before .before .before .before .before .before .before in
+    (moving-none _ _ (c .before .before .before .before .before .before .before .before .before .before .before .before .before .before .before .before .before .before .before .before .before .before .before .before .before .loop .inv .4) (c .before .before .before .before .before .before .before .before .before .before .before .before .before .before .before .before .before .before .before .before .before .before .before .before .before .loop .inv .5), listing-none _ _ _ _ (omega (arith, leb-true (c .before .before .before .before .before .before .before .before .before .before .before .before .before .before .before .before .before .before .before .before .before .before .before .before .before .loop .at + 196) (length (c .before .before .before .before .before .before .before .before .before .before .before .before .before .before .before .before .before .before .before .before .before .before .before .before .before .loop .out)) (room turn), few turn)))
+
+below : (c : tie.In-loop2 Inv-loop2 μ-loop2 Inv-loop μ-loop) → c .before .loop2 .ch < 4
+below c = omega (arith, c .loop2-test .taken, few (c .before .before .before .before .before .before .before .before .before .before .before .before .before .before .before .before .before .before .before .before .before))
+
+inside : (c : tie.In-loop2 Inv-loop2 μ-loop2 Inv-loop μ-loop) → c .before .loop2 .ch < channelsOf (before (c .before .before .before .before .before .before .before .before .before .before .before .before .before .before .before .before .before .before .before .before .before) .estimator)
+inside c = c .loop2-test .taken
+
+-- the update that the block is, and the state with the block counted, from which the records move
+abbrev update : Turn → Update
+update c = updateIn (channelsOf (before c .estimator)) (recordIn (ahead c))
+
+abbrev from : tie.At-loop2 Inv-loop2 μ-loop2 Inv-loop μ-loop → ErleEstimator
+from c =
+    let e = before (c .before .before .before .before .before .before .before .before .before .before .before .before .before .before .before .before .before .before .before .before) .estimator in
+    record {
+      settings = e .settings;
+      «startup_phase_length_blocks» = e .«startup_phase_length_blocks»;
+      «blocks_since_reset» = c .before .before .before .before .before .before .before .before .before .before .before .before .before .before .before .before .before .before .before .before .before .before .before .before .one-more .result;
+      «section_boundaries_blocks» = e .«section_boundaries_blocks»;
+      subband = e .subband;
+      «signal_dependent» = e .«signal_dependent»;
+      fullband = e .fullband;
+    }
+
+counted-is : (c : tie.At-loop2 Inv-loop2 μ-loop2 Inv-loop μ-loop) → from c ≡ counted (before (c .before .before .before .before .before .before .before .before .before .before .before .before .before .before .before .before .before .before .before .before) .estimator)
+unfolding counted
+counted-is c =
+    let e = before (c .before .before .before .before .before .before .before .before .before .before .before .before .before .before .before .before .before .before .before .before) .estimator in
+    λ i. record {
+      settings = e .settings;
+      «startup_phase_length_blocks» = e .«startup_phase_length_blocks»;
+      «blocks_since_reset» = c .before .before .before .before .before .before .before .before .before .before .before .before .before .before .before .before .before .before .before .before .before .before .before .before .one-more .ensures i;
+      «section_boundaries_blocks» = e .«section_boundaries_blocks»;
+      subband = e .subband;
+      «signal_dependent» = e .«signal_dependent»;
+      fullband = e .fullband;
+    }
+
+flag : (c : tie.In-loop2 Inv-loop2 μ-loop2 Inv-loop μ-loop) → getD (c .before .before .before .before .before .before .before .before .before .before .before .before .before .before .before .before .before .before .before .block-in .result .«converged_filters») (c .before .loop2 .ch) false ≡ getD (update (c .before .before .before .before .before .before .before .before .before .before .before .before .before .before .before .before .before .before .before .before .before) .converged) (c .before .loop2 .ch) false
+unfolding updateIn
+flag c =
+    let t = tables (c .before .before .before .before .before .before .before .before .before .before .before .before .before .before .before .before .before .before .before) in
+    sym (getD-take (channelsOf (before (c .before .before .before .before .before .before .before .before .before .before .before .before .before .before .before .before .before .before .before .before .before) .estimator)) _ (c .before .loop2 .ch) false (inside c)) ∙ ap (λ (l : List Bool). getD l (c .before .loop2 .ch) false) (t .flags)
+
+-- the channel lies in what is lent
+lent-part :
+    (c : tie.In-loop2 Inv-loop2 μ-loop2 Inv-loop μ-loop)
+    → let n = channelsOf (before (c .before .before .before .before .before .before .before .before .before .before .before .before .before .before .before .before .before .before .before .before .before) .estimator) in
+    let b = c .before .before .before .before .before .before .before .before .before .before .before .before .before .before .before .before .before .before .before .block-in .result in
+    (c .before .loop2 .ch * 65 + 65 ≤ length (take (n * 65) (b .y2))) × (c .before .loop2 .ch * 65 + 65 ≤ length (take (n * 65) (b .e2)))
+lent-part c =
+    let n = channelsOf (before (c .before .before .before .before .before .before .before .before .before .before .before .before .before .before .before .before .before .before .before .before .before) .estimator) in
+    let r = recordIn (ahead (c .before .before .before .before .before .before .before .before .before .before .before .before .before .before .before .before .before .before .before .before .before)) in
+    let t = tables (c .before .before .before .before .before .before .before .before .before .before .before .before .before .before .before .before .before .before .before) in (
+      omega (arith, inside c, ap length (t .capture), length-capture n r),
+      omega (arith, inside c, ap length (t .residual), length-residual n r),
+    )
+
+-- a channel's captures and residuals
+own :
+    (c : tie.After-part2 Inv-loop2 μ-loop2 Inv-loop μ-loop)
+    → (c .before .before .part .result .now ≡ part (update (c .before .before .before .before .before .before .before .before .before .before .before .before .before .before .before .before .before .before .before .before .before .before .before .before .before) .capture) (c .before .before .before .before .before .loop2 .ch))
+    × (c .part2 .result .now ≡ part (update (c .before .before .before .before .before .before .before .before .before .before .before .before .before .before .before .before .before .before .before .before .before .before .before .before .before) .residual) (c .before .before .before .before .before .loop2 .ch))
+unfolding updateIn
+own c =
+    let t = tables (c .before .before .before .before .before .before .before .before .before .before .before .before .before .before .before .before .before .before .before .before .before .before .before) in
+    let ch : ℕ = c .before .before .before .before .before .loop2 .ch in
+    (c .before .before .part .ensures ∙ ap (λ l. part l ch) (t .capture), c .part2 .ensures ∙ ap (λ l. part l ch) (t .residual))
+
+own-long : (c : tie.After-part2 Inv-loop2 μ-loop2 Inv-loop μ-loop) → (length (c .before .before .part .result .now) ≡ 65) × (length (c .part2 .result .now) ≡ 65)
+unfolding updateIn
+own-long c =
+    let n = channelsOf (before (c .before .before .before .before .before .before .before .before .before .before .before .before .before .before .before .before .before .before .before .before .before .before .before .before .before) .estimator) in
+    let r = recordIn (ahead (c .before .before .before .before .before .before .before .before .before .before .before .before .before .before .before .before .before .before .before .before .before .before .before .before .before)) in
+    let h = inside (c .before .before .before .before) in (
+      ap length (own c .0) ∙ part-length _ _ (omega (arith, h, length-capture n r)),
+      ap length (own c .1) ∙ part-length _ _ (omega (arith, h, length-residual n r)),
+    )
+
+subband-channel-requires : tie.Need-subband-channel-requires Inv-loop2 μ-loop2 Inv-loop μ-loop
+subband-channel-requires c κs =
+    let e = before (c .before .before .before .before .before .before .before .before .before .before .before .before .before .before .before .before .before .before .before .before .before .before .before .before .before .before .before) .estimator in
+    let n = channelsOf e in
+    let r = recordIn (ahead (c .before .before .before .before .before .before .before .before .before .before .before .before .before .before .before .before .before .before .before .before .before .before .before .before .before .before .before)) in
+    let ch : ℕ = c .before .before .before .before .before .before .before .loop2 .ch in (
+      rw (stored-not-yet (c .before .before .before .before .before .before .before .loop2 .inv .0 .subband)) (points-few (subbandPart e) ch (subband-passed e (passes (c .before .before .before .before .before .before .before .before .before .before .before .before .before .before .before .before .before .before .before .before .before .before .before .before .before .before .before))) (c .before .before .before .before .before .before .before .before .before .before .before .before .before .before .before .before .before .before .before .before .before .before .before .before .before .before .before .before .before .before .before .before .before .loop .inv .4) (inside (c .before .before .before .before .before .before))),
+      (render-long (c .before .before .before .before .before .before .before .before .before .before .before .before .before .before .before .before .before .before .before .before .before .before .before .before .before), own-long (c .before .before) .0, own-long (c .before .before) .1),
+    )
+
+subband-is : (c : tie.After-subband-channel Inv-loop2 μ-loop2 Inv-loop μ-loop) → c .subband-channel .result ≡ subbandAt (from (c .before .before .before .before .before .before .before .before)) (update (c .before .before .before .before .before .before .before .before .before .before .before .before .before .before .before .before .before .before .before .before .before .before .before .before .before .before .before .before)) (c .before .before .before .before .before .before .before .before .loop2 .ch)
+unfolding updateIn
+subband-is c =
+    let t = tables (c .before .before .before .before .before .before .before .before .before .before .before .before .before .before .before .before .before .before .before .before .before .before .before .before .before .before) in
+    c .subband-channel .ensures
+    ∙ subband-moved (from (c .before .before .before .before .before .before .before .before)) (update (c .before .before .before .before .before .before .before .before .before .before .before .before .before .before .before .before .before .before .before .before .before .before .before .before .before .before .before .before)) (c .before .before .before .before .before .before .before .before .loop2 .ch) (c .before .before .before .before .before .before .before .before .before .before .before .before .before .before .before .before .subband-settings .ensures) (flag (c .before .before .before .before .before .before .before)) (t .render) (own (c .before .before .before) .0) (own (c .before .before .before) .1)
+    (stored-not-yet (c .before .before .before .before .before .before .before .before .loop2 .inv .0 .subband))
+
+fullband-channel-requires : tie.Need-fullband-channel-requires Inv-loop2 μ-loop2 Inv-loop μ-loop
+unfolding updateIn
+fullband-channel-requires c κs =
+    let e = before (c .before .before .before .before .before .before .before .before .before .before .before .before .before .before .before .before .before .before .before .before .before .before .before .before .before .before .before .before .before) .estimator in
+    let n = channelsOf e in
+    let r = recordIn (ahead (c .before .before .before .before .before .before .before .before .before .before .before .before .before .before .before .before .before .before .before .before .before .before .before .before .before .before .before .before .before)) in
+    let ch : ℕ = c .before .before .before .before .before .before .before .before .before .loop2 .ch in
+    let ok = each-of-three (valuesOk (renderIn n r)) (valuesOk (captureIn n r)) (valuesOk (residualIn n r)) (values (c .before .before .before .before .before .before .before .before .before .before .before .before .before .before .before .before .before .before)) in (
+      rw (stored-not-yet (c .before .before .before .before .before .before .before .before .before .loop2 .inv .0 .fullband)) (channel-passed (fullbandPart e) (fullband-passed e (passes (c .before .before .before .before .before .before .before .before .before .before .before .before .before .before .before .before .before .before .before .before .before .before .before .before .before .before .before .before .before))) ch (c .before .before .before .before .before .before .before .before .before .before .before .before .before .before .before .before .before .before .before .before .before .before .before .before .before .before .before .before .before .before .before .before .before .before .before .loop .inv .5) (inside (c .before .before .before .before .before .before .before .before))),
+      own-long (c .before .before .before .before) .0,
+      own-long (c .before .before .before .before) .1,
+      rw (own (c .before .before .before .before) .0) (part-every (within greatestValue) (captureIn n r) ch (ok .1)),
+    )
+
+fullband-is : (c : tie.After-fullband-channel Inv-loop2 μ-loop2 Inv-loop μ-loop) → c .fullband-channel .result ≡ fullbandAt (from (c .before .before .before .before .before .before .before .before .before .before)) (update (c .before .before .before .before .before .before .before .before .before .before .before .before .before .before .before .before .before .before .before .before .before .before .before .before .before .before .before .before .before .before)) (c .before .before .before .before .before .before .before .before .before .before .loop2 .ch)
+unfolding updateIn
+fullband-is c =
+    let t = tables (c .before .before .before .before .before .before .before .before .before .before .before .before .before .before .before .before .before .before .before .before .before .before .before .before .before .before .before .before) in
+    let n = channelsOf (before (c .before .before .before .before .before .before .before .before .before .before .before .before .before .before .before .before .before .before .before .before .before .before .before .before .before .before .before .before .before .before) .estimator) in
+    let r = recordIn (ahead (c .before .before .before .before .before .before .before .before .before .before .before .before .before .before .before .before .before .before .before .before .before .before .before .before .before .before .before .before .before .before)) in
+    c .fullband-channel .ensures
+    ∙ fullband-moved (from (c .before .before .before .before .before .before .before .before .before .before)) (update (c .before .before .before .before .before .before .before .before .before .before .before .before .before .before .before .before .before .before .before .before .before .before .before .before .before .before .before .before .before .before)) (c .before .before .before .before .before .before .before .before .before .before .loop2 .ch)
+    (c .before .before .before .before .before .before .before .before .before .before .before .before .before .before .before .before .min-erle-log2 .ensures ∙ ap minLog2 (c .before .before .before .before .before .before .before .before .before .before .before .before .before .before .before .before .before .fullband-settings .ensures))
+    (simp (t .flags, t .render) at (c .before .before .before .before .before .before .before .before .before .before .before .before .before .is-loud .ensures)) (flag (c .before .before .before .before .before .before .before .before .before)) (own (c .before .before .before .before .before) .0) (own (c .before .before .before .before .before) .1)
+    (omega (arith, inside (c .before .before .before .before .before .before .before .before .before), length-flags n r))
+    (stored-not-yet (c .before .before .before .before .before .before .before .before .before .before .loop2 .inv .0 .fullband))
+
+loop2-again : tie.Need-loop2-again Inv-loop2 μ-loop2 Inv-loop μ-loop
+loop2-again c =
+    let turn = c .before .before .before .before .before .before .before .before .before .before .before .before .before .before .before .before .before .before .before .before .before .before .before .before .before .before .before .before .before .before .before .before .before .before .before .before in
+    let s = from (c .before .before .before .before .before .before .before .before .before .before .before .before .before .before .before .before) in
+    let u = update turn in
+    let ch : ℕ = c .before .before .before .before .before .before .before .before .before .before .before .before .before .before .before .before .loop2 .ch in
+    let band : ℕ = before turn .band in
+    let blocks : ℕ = c .before .before .before .before .before .before .before .before .before .before .before .before .before .before .before .before .before .before .one-more2 .result in
+    let subband = subband-is (c .before .before .before .before .before .before .before .before) in
+    let row = ap (λ (r : SubbandChannel). subbandRow (s .settings .«onset_detection») r band blocks ch) subband ∙ row-is s u (plain turn .section) (few turn) ch (inside (c .before .before .before .before .before .before .before .before .before .before .before .before .before .before .before)) band blocks in (
+      moving-more s u (c .before .before .before .before .before .before .before .before .before .before .before .before .before .before .before .before .loop2 .inv .0) (inside (c .before .before .before .before .before .before .before .before .before .before .before .before .before .before .before)) (few turn) subband (fullband-is (c .before .before .before .before .before .before)) (c .before .before .before .before .before .ok2 .ensures) (c .before .before .before .before .ok3 .ensures),
+      listing-more (c .before .before .before .before .before .before .before .before .before .before .before .before .before .before .before .before .loop2 .inv .1) (inside (c .before .before .before .before .before .before .before .before .before .before .before .before .before .before .before)) (rw row at (c .before .before .put-subband-row .ensures)),
+    )
+
+-- ---- the next turn
+
+last : (c : tie.After-loop2 Inv-loop2 μ-loop2 Inv-loop μ-loop) → c .before .loop2 .ch ≡ channelsOf (before (c .before .before .before .before .before .before .before .before .before .before .before .before .before .before .before .before .before .before .before .before .before) .estimator)
+last c = omega (arith, c .before .loop2 .inv .1 .to, c .loop2-test .left)
+
+moved : (c : tie.After-loop2 Inv-loop2 μ-loop2 Inv-loop μ-loop) → c .before .loop2 .estimator ≡ updated (from (c .before)) (update (c .before .before .before .before .before .before .before .before .before .before .before .before .before .before .before .before .before .before .before .before .before))
+moved c = moving-all (from (c .before)) (update (c .before .before .before .before .before .before .before .before .before .before .before .before .before .before .before .before .before .before .before .before .before)) (few (c .before .before .before .before .before .before .before .before .before .before .before .before .before .before .before .before .before .before .before .before .before)) (c .before .loop2 .inv .0) (omega (arith, last c)) (plain (c .before .before .before .before .before .before .before .before .before .before .before .before .before .before .before .before .before .before .before .before .before) .section)
+
+still-passes : (c : tie.After-loop2 Inv-loop2 μ-loop2 Inv-loop μ-loop) → c .before .loop2 .state-ok ≡ true → stateOk (c .before .loop2 .estimator) ≡ true
+unfolding stateOk
+still-passes c all =
+    ap stateOk (moved c)
+    ∙ moving-ok (from (c .before)) (update (c .before .before .before .before .before .before .before .before .before .before .before .before .before .before .before .before .before .before .before .before .before)) (few (c .before .before .before .before .before .before .before .before .before .before .before .before .before .before .before .before .before .before .before .before .before)) (c .before .loop2 .inv .0) (omega (arith, last c)) (plain (c .before .before .before .before .before .before .before .before .before .before .before .before .before .before .before .before .before .before .before .before .before) .section) (passes (c .before .before .before .before .before .before .before .before .before .before .before .before .before .before .before .before .before .before .before .before .before)) all
+
+loop-again : tie.Need-loop-again Inv-loop2 μ-loop2 Inv-loop μ-loop
+loop-again c =
+    let turn = c .before .before .before .before .before .before .before .before .before .before .before .before .before .before .before .before .before .before .before .before .before in
+    let at = c .before .loop2 in
+    let is = counted-is (c .before) in
+    let after = moved c in
+    let text = at .inv .1 .text in
+    let all : lines (tab (at .ch) (rowAt (updated (from (c .before)) (update turn)) (before turn .band) (c .before .before .before .one-more2 .result))) ≡ lines (tab (channelsOf (before turn .estimator)) (rowAt (at .estimator) (before turn .band) (c .before .before .before .one-more2 .result))) =
+    λ i. lines (tab (last c i) (rowAt (sym after i) (before turn .band) (c .before .before .before .one-more2 .result))) in
+    let stepped = block-stepped (before turn) (ahead turn) (plain turn) (passes turn) (values (c .before .before .before .before .before .before .before .before .before .before)) (started turn) (c .before .before .before .before .before .before .before .before .before .before .before .before .before .before .before .before .before .before .before .before .before .before .before .before .before .before .before .loop .out) (c .before .before .before .before .before .before .before .before .before .before .before .before .before .before .before .before .before .before .before .before .before .before .before .before .before .before .before .loop .at) (room turn)
+    (after ∙ ap (λ e. updated e (update turn)) is) (c .before .before .before .one-more2 .ensures) (c .before .before .one-more3 .ensures)
+    (text .text ∙ ap (laid (c .before .before .before .before .before .before .before .before .before .before .before .before .before .before .before .before .before .before .before .before .before .before .before .before .before .before .before .loop .out) (c .before .before .before .before .before .before .before .before .before .before .before .before .before .before .before .before .before .before .before .before .before .before .before .before .before .before .before .loop .at)) all, text .place ∙ ap (λ l. c .before .before .before .before .before .before .before .before .before .before .before .before .before .before .before .before .before .before .before .before .before .before .before .before .before .before .before .loop .at + length l) all) in (
+      walk-on (c .before .before .before .before .before .before .before .before .before .before .before .before .before .before .before .before .before .before .before .before .before .before .before .before .before .before .before .loop .inv .0) (plain turn) stepped,
+      ends turn,
+      wrote-long text ∙ c .before .before .before .before .before .before .before .before .before .before .before .before .before .before .before .before .before .before .before .before .before .before .before .before .before .before .before .loop .inv .2,
+      still-passes c,
+      at .inv .0 .subband .long,
+      at .inv .0 .fullband .long,
+    )
+
+pub step-blocks-spec : {M : Type 1} → statement M
+step-blocks-spec =
+    tie.close
+    (tie.spec
+    Inv-loop2
+    μ-loop2
+    Inv-loop
+    μ-loop
+    (λ c κs. search needs)
+    loop-holds
+    (λ c κs. search needs)
+    (λ c. omega (arith, c .before .before .loop .inv .1))
+    (λ c. c .before .before .loop .inv .1)
+    (λ c. search needs)
+    (λ c κs. search needs)
+    (λ c κs. search needs)
+    (λ c. c .before .before .before .before .before .before .loop .inv .2)
+    returns
+    (λ c. omega (arith, ends c, c .before .before .before .before .before .before .before .before .before .before .before .good .1 .0 .0))
+    (λ c. omega (arith, ends c, c .before .before .before .before .before .before .before .before .before .before .before .good .1 .0 .0))
+    (λ c. search needs)
+    (λ c. search needs)
+    (λ c. ends c)
+    (λ c κs. search needs)
+    (λ c. omega (arith, few (c .before .before .before .before .before .before)))
+    (λ c. search needs)
+    (λ c. omega (arith, few (c .before .before .before .before .before .before .before), tables (c .before .before .before .before .before) .roomCapture))
+    (λ c. sym (length-take-le _ _ (omega (arith, few (c .before .before .before .before .before .before .before .before), tables (c .before .before .before .before .before .before) .roomCapture))))
+    (λ c. omega (arith, few (c .before .before .before .before .before .before .before .before), tables (c .before .before .before .before .before .before) .roomResidual))
+    (λ c. sym (length-take-le _ _ (omega (arith, few (c .before .before .before .before .before .before .before .before .before), tables (c .before .before .before .before .before .before .before) .roomResidual))))
+    (λ c κs. search needs)
+    (λ c. c .before .before .before .before .before .before .before .before .before .before .before .before .before .before .before .before .before .loop .inv .2)
+    returns-2
+    (λ c κs. search needs)
+    (λ c κs. search needs)
+    min-erle-log2-requires
+    (λ c. omega (arith, few (c .before .before .before .before .before .before .before .before .before .before .before .before .before .before), tables (c .before .before .before .before .before .before .before .before .before .before .before .before) .roomFlags))
+    (λ c. sym (length-take-le _ _ (omega (arith, few (c .before .before .before .before .before .before .before .before .before .before .before .before .before .before .before), tables (c .before .before .before .before .before .before .before .before .before .before .before .before .before) .roomFlags))))
+    (λ c. sym (render-long (c .before .before .before .before .before .before .before .before .before .before .before .before .before .before)))
+    (λ c κs. search needs)
+    (λ c κs. search needs)
+    (λ c κs. search needs)
+    loop2-holds
+    (λ c. below c)
+    (λ c. omega (arith, few (c .before .before .before .before .before .before .before .before .before .before .before .before .before .before .before .before .before .before .before .before .before), tables (c .before .before .before .before .before .before .before .before .before .before .before .before .before .before .before .before .before .before .before) .roomCapture))
+    (λ c. sym (length-take-le _ _ (omega (arith, few (c .before .before .before .before .before .before .before .before .before .before .before .before .before .before .before .before .before .before .before .before .before .before), tables (c .before .before .before .before .before .before .before .before .before .before .before .before .before .before .before .before .before .before .before .before) .roomCapture))))
+    (λ c κs. lent-part (c .before) .0)
+    (λ c. omega (arith, few (c .before .before .before .before .before .before .before .before .before .before .before .before .before .before .before .before .before .before .before .before .before .before .before), tables (c .before .before .before .before .before .before .before .before .before .before .before .before .before .before .before .before .before .before .before .before .before) .roomResidual))
+    (λ c. sym (length-take-le _ _ (omega (arith, few (c .before .before .before .before .before .before .before .before .before .before .before .before .before .before .before .before .before .before .before .before .before .before .before .before), tables (c .before .before .before .before .before .before .before .before .before .before .before .before .before .before .before .before .before .before .before .before .before .before) .roomResidual))))
+    (λ c κs. lent-part (c .before .before .before) .1)
+    (λ c. record { fits = omega (arith, below (c .before .before .before .before)) })
+    (λ c. below (c .before .before .before .before))
+    (λ c. sym (render-long (c .before .before .before .before .before .before .before .before .before .before .before .before .before .before .before .before .before .before .before .before .before .before .before .before .before)))
+    subband-channel-requires
+    (λ c. record { fits = omega (arith, below (c .before .before .before .before .before .before .before)) })
+    (λ c. below (c .before .before .before .before .before .before .before))
+    (λ c. record { fits = omega (arith, below (c .before .before .before .before .before .before .before)) })
+    (λ c. below (c .before .before .before .before .before .before .before))
+    fullband-channel-requires
+    (λ c. record { fits = omega (arith, below (c .before .before .before .before .before .before .before .before .before)) })
+    (λ c. below (c .before .before .before .before .before .before .before .before .before))
+    (λ c κs. search needs)
+    (λ c κs. search needs)
+    (λ c. omega (arith, below (c .before .before .before .before .before .before .before .before .before .before .before .before)))
+    (λ c κs. search needs)
+    (λ c. record { fits = omega (arith, below (c .before .before .before .before .before .before .before .before .before .before .before .before .before .before .before)) })
+    (λ c. omega (arith, c .before .before .before .before .before .before .before .before .before .before .before .before .before .before .before .loop2-test .taken))
+    loop2-again
+    (λ c. omega (arith, ends (c .before .before .before .before .before .before .before .before .before .before .before .before .before .before .before .before .before .before .before .before .before)))
+    loop-again)

@@ -1,0 +1,158 @@
+// Many blocks of a trace at once.
+use aec3_common::counts::one_more;
+use aec3_common::judge::all_values_ok;
+use aec3_common::refusal::ACCEPTED;
+use aec3_common::spectra::part;
+use erle_estimator::ErleSettings;
+use erle_estimator::erle;
+use erle_estimator::moves::fullband_channel;
+use erle_estimator::moves::subband_channel;
+use erle_estimator::parts::fullband_settings;
+use erle_estimator::parts::subband_settings;
+use fullband_erle_estimator::is_loud;
+use subband_erle_estimator::SubbandChannel;
+use trace::Trace;
+use trace::rows::figure_at;
+use trace::steps::has_room;
+use trace_records::Standing;
+use trace_records::block_in;
+use trace_records::form_refusal;
+use trace_records::frame_length;
+use trace_records::kind_of;
+use trace_records::records::BLOCK_KIND;
+use trace_text::put_row;
+ghost use mathlib.Core.Path.{_≡_};
+ghost use Prim.Native.Nat.{_<_, _≤_};
+ghost use lib.ListN.{length};
+ghost use Rattle.encoding.specs.Text.{written, after};
+ghost use Rattle.trace_text.specs.Text.{line};
+ghost use Rattle.trace_blocks.specs.Blocks.{Plain, BlocksStepped, subbandRow};
+
+// The state after some blocks, how many bytes they are with their L, and the place behind their lines.
+pub struct SteppedBlocks {
+    pub state: Trace,
+    pub used: usize,
+    pub at: usize,
+}
+
+// The L of the block that the bytes begin with, or 0 where they begin with none whose form passes; for settings with one section and
+// no headroom, as a trace has them.
+fn plain_length(settings: ErleSettings, s: &[u8]) -> usize
+    ensures { λ r. ⌜ (0 < r → Plain settings (now (s .entry)) r) ⌝ }
+{
+    let length = frame_length(s);
+    if length == 0 {
+        return 0;
+    }
+    let end = 4 + length;
+    let record = &s[4..end];
+    let standing = Standing {
+        num_capture_channels: settings.num_capture_channels,
+    };
+    let one_section = (settings.num_sections == 1) & (settings.delay_headroom_samples == 0);
+    let form = form_refusal(standing, record);
+    if one_section & (kind_of(record) == BLOCK_KIND) & (form == ACCEPTED) {
+        length
+    } else {
+        0
+    }
+}
+
+// A channel's row where there is one section, which the subband record alone gives.
+fn put_subband_row(
+    out: &mut [u8],
+    at: usize,
+    onset_detection: bool,
+    subband: SubbandChannel,
+    band: usize,
+    block: u32,
+    ch: u32,
+) -> usize
+    ensures { λ _. ⌜ now (out .exit) ≡ written (now (out .entry)) at (line (subbandRow «onset_detection» subband band block ch)) ⌝ }
+    ensures { λ r. ⌜ r ≡ after (now (out .entry)) at (line (subbandRow «onset_detection» subband band block ch)) ⌝ }
+{
+    let plain = subband.erle;
+    let compensated = subband.erle_onset_compensated;
+    let unbounded = subband.erle_unbounded;
+    let shown = erle(&plain, &compensated, true, onset_detection);
+    put_row(
+        out,
+        at,
+        block,
+        ch,
+        figure_at(&plain, band),
+        figure_at(shown, band),
+        figure_at(&unbounded, band),
+    )
+}
+
+// Steps through blocks at the front of some bytes, as `step` does one by one, for as long as they are accepted and past the startup
+// phase and find room for their lines. The estimator is changed in place here: handing it to a function copies all of it, which
+// takes longer than the block itself.
+pub fn step_blocks(t: Trace, input: &[u8], out: &mut [u8], at: usize) -> SteppedBlocks
+    ensures { λ r. ⌜ BlocksStepped t (now (input .entry)) (now (out .entry)) at (now (out .exit)) r ⌝ }
+    ensures { λ r. ⌜ r .used ≤ length (now (input .entry)) ⌝ }
+{
+    let band = t.band;
+    let mut estimator = t.estimator;
+    let mut blocks = t.blocks;
+    let mut records = t.records;
+    let mut state_ok = estimator.ok();
+    let mut at = at;
+    let mut used = 0;
+    loop {
+        let settings = estimator.settings;
+        let counted = one_more(estimator.blocks_since_reset);
+        let started = estimator.startup_phase_length_blocks <= counted;
+        let length = plain_length(settings, &input[used..]);
+        if !(state_ok & started & (length > 0) & has_room(out.len(), at)) {
+            let state = Trace {
+                estimator,
+                band,
+                blocks,
+                records,
+            };
+            return SteppedBlocks { state, used, at };
+        }
+        let n = settings.num_capture_channels;
+        let start = used + 4;
+        let end = start + length;
+        let block = block_in(&input[start..end], n);
+        let flags = block.converged_filters;
+        let x2 = block.x2;
+        let y2 = block.y2;
+        let e2 = block.e2;
+        let count = n * 65;
+        if !all_values_ok(&x2, &y2[..count], &e2[..count]) {
+            let state = Trace {
+                estimator,
+                band,
+                blocks,
+                records,
+            };
+            return SteppedBlocks { state, used, at };
+        }
+        let subband_part = subband_settings(settings);
+        let fullband_part = fullband_settings(settings);
+        let min_erle_log2 = fullband_part.min_erle_log2();
+        let loud = is_loud(&flags[..n], &x2);
+        estimator.blocks_since_reset = counted;
+        blocks = one_more(blocks);
+        records = one_more(records);
+        for ch in 0..n {
+            let converged = flags[ch];
+            let own_y2 = part(&y2[..count], ch);
+            let own_e2 = part(&e2[..count], ch);
+            let c = estimator.subband[ch];
+            let subband = subband_channel(c, subband_part, converged, &x2, own_y2, own_e2);
+            estimator.subband[ch] = subband;
+            let c = estimator.fullband[ch];
+            let fullband = fullband_channel(c, min_erle_log2, loud & converged, own_y2, own_e2);
+            estimator.fullband[ch] = fullband;
+            state_ok = state_ok & subband.ok() & fullband.ok();
+            let onset = settings.onset_detection;
+            at = put_subband_row(out, at, onset, subband, band, blocks, ch as u32);
+        }
+        used = end;
+    }
+}
