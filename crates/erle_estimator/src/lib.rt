@@ -1,7 +1,7 @@
 // The whole ERLE estimator: subband, signal-dependent and fullband under one set of settings and one block count.
 mod judge;
-pub mod moves;
-pub mod parts;
+mod moves;
+mod parts;
 mod streams;
 
 use aec3_common::counts::one_more;
@@ -19,14 +19,14 @@ use fullband_erle_estimator::is_loud;
 use judge::judged_channels;
 use judge::settings_pass;
 use moves::active_sections;
-use moves::fullband_channel;
+pub use moves::fullband_channel;
 use moves::render_subbands;
 use moves::signal_channel;
-use moves::subband_channel;
-use parts::fullband_settings;
+pub use moves::subband_channel;
+pub use parts::fullband_settings;
 use parts::refused_settings;
 use parts::signal_settings;
-use parts::subband_settings;
+pub use parts::subband_settings;
 pub use section_echoes::RenderRing;
 use signal_dependent_erle_estimator::SignalDependentChannel;
 use signal_dependent_erle_estimator::boundaries_of;

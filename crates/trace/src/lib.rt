@@ -1,12 +1,13 @@
 // A trace: what each record does to the estimator, and the listing. No public function asks anything of its caller.
 mod answers;
 pub mod listing;
-pub mod rows;
+mod rows;
 pub mod steps;
 
 use erle_estimator::ErleEstimator;
 pub use listing::Listed;
 pub use listing::list_trace;
+pub use rows::figure_at;
 pub use steps::Stepped;
 pub use steps::beginning;
 pub use steps::put_bad_frame;
