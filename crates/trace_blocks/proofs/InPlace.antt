@@ -5,7 +5,7 @@ use mathlib.Core.List.{List, []}
 use Prim.Native.Nat.{ℕ, zero, suc, _+_, _-_, _≤_, _<_}
 use native.Mathlib.Omega.{arith}
 use borrow.Author.Count.{below-more}
-use borrow.Author.Tests.{eq-eqb, eqb-true, le-ltb}
+use borrow.Author.Tests.{eq-eqb, eqb-true, le-leb, le-ltb}
 use lib.Dec.{eqb, leb, ltb}
 use lib.ListN.{length, take, drop, length-drop}
 use lib.Seq.{take-all, drop-drop}
@@ -15,22 +15,23 @@ use Rattle.aec3_common.specs.Counts.{oneMore}
 use Rattle.aec3_common.specs.Lists.{tab}
 use Rattle.aec3_common.specs.Refusal.{accepted}
 use Rattle.aec3_common.specs.Streams.{erleOf}
-use Rattle.aec3_common.proofs.Choices.{and-left, and-right}
+use Rattle.aec3_common.proofs.Choices.{and-left, and-right, each-of-three, passed, first-of-passed}
 use Rattle.encoding.specs.Text.{laid}
 use Rattle.erle_estimator.specs.declared.ErleEstimator.{ErleEstimator}
 use Rattle.erle_estimator.specs.declared.ErleAnswer.{ErleAnswer}
 use Rattle.erle_estimator.specs.Erle.{Update, stateOk, updateRefusal, counted, updated, afterAccepted, updateAnswer, sectioned, erleShown, streamsShown}
+use Rattle.erle_estimator.proofs.Judged.{accepted-call}
 use Rattle.trace_records.specs.declared.judge.Standing.{Standing}
 use Rattle.trace_records.specs.Frames.{lengthIn, framed, recordIn, frameLength}
 use Rattle.trace_records.specs.Records.{kindOf, blockKind, bandIn, renderIn, captureIn, residualIn}
 use Rattle.trace_records.specs.Judge.{formRefusal, blockValues}
-use Rattle.trace_records.proofs.Framing.{framed-least, framed-most, framed-room, framed-length, length-framed}
+use Rattle.trace_records.proofs.Framing.{framed-least, framed-most, framed-room, framed-length, length-framed, no-length-framed}
 use Rattle.trace_records.proofs.Judged.{by-block, BlockOk, block-ok}
 use Rattle.trace_text.specs.Text.{Item, lines}
 use Rattle.trace.specs.declared.Trace.{Trace}
 use Rattle.trace.specs.declared.steps.Stepped.{Stepped}
 use Rattle.trace.specs.Apply.{channelsOf, standingOf, updateIn, answerOf, bandAfter, blocksAfter, nextOf, rowOf, rowAt, rowsIf, rowsOf}
-use Rattle.trace_blocks.specs.Blocks.{Walk, further, walked, Taken, Steps, Plain, subbandRow}
+use Rattle.trace_blocks.specs.Blocks.{oneSection, Walk, further, walked, takes, Walked, isPlain, plainLength, subbandRow}
 use Rattle.trace.specs.Steps.{mostText, stepRefusal, stepAnswer, stepOver}
 use Rattle.trace.proofs.Judged.{update-judged}
 use Rattle.trace_blocks.proofs.Moving.{subbandAt, moved-at}
@@ -38,17 +39,32 @@ use Rattle.trace.proofs.Stepping.{by-answer, step-accepted}
 
 -- ---- walks
 
+-- A walk on its way: each record behind it was taken.
+pub record Steps (s : List ℕ) (from to : Walk) : Type 0 where
+  pub count : ℕ
+  pub each : (k : ℕ) → k < count → takes s (walked s k from) ≡ true
+  pub last : to ≡ walked s count from
+
+-- and where it ends
+pub walk-ended : {s : List ℕ} {from to : Walk} → Steps s from to → (takes s to ≡ true → ⊥) → Walked s from to
+walk-ended {s} {to = to} steps none =
+    record { count = steps .count; each = steps .each; last = steps .last; ended = go (takes s to) refl }
+  where
+    go : (t : Bool) → takes s to ≡ t → t ≡ false
+    go true e = absurd (none e)
+    go false e = refl
+
 pub steps-none : (s : List ℕ) (w : Walk) → Steps s w w
 unfolding walked
 steps-none s w = record { count = 0; each = λ k h. absurd (omega arith); last = refl }
 
-pub steps-more : {s : List ℕ} {from w next : Walk} → Steps s from w → Taken s w → next ≡ further s w → Steps s from next
+pub steps-more : {s : List ℕ} {from w next : Walk} → Steps s from w → takes s w ≡ true → next ≡ further s w → Steps s from next
 unfolding walked
 steps-more {s} {from} {w} {next} steps taken is =
     record {
       count = suc (steps .count);
       each = λ k h.
-          below-more (λ k. Taken s (walked s k from)) (steps .count) (steps .each) (rw (← steps .last) taken) k (omega (arith, h));
+          below-more (λ k. takes s (walked s k from) ≡ true) (steps .count) (steps .each) (rw (← steps .last) taken) k (omega (arith, h));
       last = is ∙ ap (further s) (steps .last);
     }
 
@@ -59,6 +75,15 @@ each-of-these true true true d e = (refl, refl, refl, e)
 each-of-these true true false d e = absurd (false≢true e)
 each-of-these true false c d e = absurd (false≢true e)
 each-of-these false b c d e = absurd (false≢true e)
+
+each-of-six :
+    (a b c d e f : Bool) → a && b && c && d && e && f ≡ true
+    → (a ≡ true) × (b ≡ true) × (c ≡ true) × (d ≡ true) × (e ≡ true) × (f ≡ true)
+each-of-six a b c d e f all =
+    let five = and-left (a && b && c && d && e) f all in
+    let four = and-left (a && b && c && d) e five in
+    let (first, second, third, fourth) = each-of-these a b c d four in
+    (first, second, third, fourth, and-right (a && b && c && d) e five, and-right (a && b && c && d && e) f all)
 
 -- ---- a whole record
 
@@ -81,28 +106,70 @@ whole-is s is some =
       room = omega (arith, long, framed-room s ok);
     }
 
--- the tests of `plain_length`
-pub plain-by :
-    (g : ErleSettings) (s : List ℕ) {n : ℕ} → Whole s n → {kind form : ℕ}
-    → kind ≡ kindOf (take (4 + n - 4) (drop 4 s)) → form ≡ formRefusal (record { «num_capture_channels» = g .«num_capture_channels» }) (take (4 + n - 4) (drop 4 s))
-    → (((eqb (g .«num_sections») 1 && eqb (g .«delay_headroom_samples») 0) && eqb kind blockKind) && eqb form accepted) ≡ true
-    → Plain g s n
-plain-by g s {n} w {kind} {form} of-kind of-form all =
-    let one = eqb (g .«num_sections») 1 in
-    let flat = eqb (g .«delay_headroom_samples») 0 in
-    let is = eqb kind blockKind in
-    let passes = eqb form accepted in
-    let three = and-left ((one && flat) && is) passes all in
-    let two = and-left (one && flat) is three in
-    let size : 4 + n - 4 ≡ lengthIn s = omega (arith, w .long) in
-    record {
-      whole = w .whole;
-      long = w .long;
-      kind = sym (rw size at of-kind) ∙ eqb-true kind blockKind (and-right (one && flat) is three);
-      form = sym (rw size at of-form) ∙ eqb-true form accepted (and-right ((one && flat) && is) passes all);
-      section = eqb-true (g .«num_sections») 1 (and-left one flat two);
-      flat = eqb-true (g .«delay_headroom_samples») 0 (and-right one flat two);
-    }
+-- ---- a plain block
+
+pub record Plain (g : ErleSettings) (s : List ℕ) : Type 0 where
+  pub whole : framed s ≡ true
+  pub kind : kindOf (recordIn s) ≡ blockKind
+  pub form : formRefusal (record { «num_capture_channels» = g .«num_capture_channels» }) (recordIn s) ≡ accepted
+  pub section : g .«num_sections» ≡ 1
+  pub flat : g .«delay_headroom_samples» ≡ 0
+
+module _ (g : ErleSettings) (s : List ℕ) where
+  abbrev isBlock : Bool
+  isBlock = eqb (kindOf (recordIn s)) blockKind
+
+  abbrev formOk : Bool
+  formOk = eqb (formRefusal (record { «num_capture_channels» = g .«num_capture_channels» }) (recordIn s)) accepted
+
+  pub plain-of : isPlain g s ≡ true → Plain g s
+  unfolding isPlain
+  plain-of all =
+      let one = eqb (g .«num_sections») 1 in
+      let flat = eqb (g .«delay_headroom_samples») 0 in
+      let (whole, two, form) = each-of-three (framed s) ((one && flat) && isBlock) formOk all in
+      let settings = and-left (one && flat) isBlock two in
+      record {
+        whole = whole;
+        kind = eqb-true _ _ (and-right (one && flat) isBlock two);
+        form = eqb-true _ _ form;
+        section = eqb-true _ _ (and-left one flat settings);
+        flat = eqb-true _ _ (and-right one flat settings);
+      }
+
+  pub is-plain : Plain g s → isPlain g s ≡ true
+  unfolding isPlain
+  is-plain p = simp (p .whole, eq-eqb _ _ (p .kind), eq-eqb _ _ (p .form), eq-eqb _ _ (p .section), eq-eqb _ _ (p .flat))
+
+  -- a length is given for a plain block
+  pub some-plain : 0 < plainLength g s → Plain g s
+  unfolding plainLength
+  some-plain some = go (isPlain g s) refl
+    where
+      go : (t : Bool) → isPlain g s ≡ t → Plain g s
+      go true e = plain-of e
+      go false e = absurd (omega (arith, rw e at some))
+
+  pub plain-long : Plain g s → plainLength g s ≡ lengthIn s
+  unfolding plainLength
+  plain-long p = rw (is-plain p)
+
+  -- bytes that begin with no whole record
+  pub plain-none : frameLength s ≡ 0 → 0 ≡ plainLength g s
+  unfolding plainLength isPlain
+  plain-none none = sym (rw (no-length-framed s none))
+
+  -- the tests of `plain_length`
+  pub plain-by :
+      {n : ℕ} → Whole s n → {kind form : ℕ}
+      → kind ≡ kindOf (take (4 + n - 4) (drop 4 s)) → form ≡ formRefusal (record { «num_capture_channels» = g .«num_capture_channels» }) (take (4 + n - 4) (drop 4 s))
+      → (t : Bool) → (oneSection g && eqb kind blockKind) && eqb form accepted ≡ t → cond t n 0 ≡ plainLength g s
+  unfolding plainLength isPlain
+  plain-by {n} w {kind} {form} of-kind of-form t e =
+      let size : 4 + n - 4 ≡ lengthIn s = omega (arith, w .long) in
+      let same-kind = rw size at of-kind in
+      let same-form = rw size at of-form in
+      sym (rw (w .whole, ← same-kind, ← same-form, e, w .long))
 
 -- the record, as the part of the input that is lent
 pub record-ahead :
@@ -112,16 +179,16 @@ record-ahead s used {n} long =
     rw (size, ← drop-drop 4 used s)
 
 -- bytes that are lent to the end
-pub plain-ahead : (s : List ℕ) (used : ℕ) {g : ErleSettings} {n : ℕ} → Plain g (take (length s - used) (drop used s)) n → Plain g (drop used s) n
-plain-ahead s used plain = rw (take-all (length s - used) (drop used s) (omega (arith, length-drop used s))) at plain
+pub lent-ahead : (s : List ℕ) (used : ℕ) → take (length s - used) (drop used s) ≡ drop used s
+lent-ahead s used = take-all (length s - used) (drop used s) (omega (arith, length-drop used s))
 
 -- where the record ends
-pub plain-ends : (s : List ℕ) (used : ℕ) {g : ErleSettings} {n : ℕ} → used ≤ length s → Plain g (drop used s) n → used + 4 + n ≤ length s
-plain-ends s used within plain = omega (arith, plain .long, framed-room (drop used s) (plain .whole), length-drop used s)
+pub plain-ends : (s : List ℕ) (used : ℕ) {g : ErleSettings} → used ≤ length s → Plain g (drop used s) → used + 4 + lengthIn (drop used s) ≤ length s
+plain-ends s used within plain = omega (arith, framed-room (drop used s) (plain .whole), length-drop used s)
 
 -- ---- a block
 
-module _ (t : Trace) (s : List ℕ) {n : ℕ} (plain : Plain (t .estimator .settings) s n) where
+module _ (t : Trace) (s : List ℕ) (plain : Plain (t .estimator .settings) s) where
   abbrev e : ErleEstimator
   e = t .estimator
 
@@ -191,21 +258,93 @@ module _ (t : Trace) (s : List ℕ) {n : ℕ} (plain : Plain (t .estimator .sett
 
 -- the walk goes on by it
 pub walk-on :
-    {s : List ℕ} {from : Walk} {t : Trace} {used : ℕ} {d : List ℕ} {at : ℕ} {g : ErleSettings} {n : ℕ} {next : Trace} {out : List ℕ} {end : ℕ}
-    → Steps s from (record { state = t; used = used; out = d; at = at }) → Plain g (drop used s) n
+    {s : List ℕ} {from : Walk} {t : Trace} {used : ℕ} {d : List ℕ} {at : ℕ} {n : ℕ} {next : Trace} {out : List ℕ} {end : ℕ}
+    → Steps s from (record { state = t; used = used; out = d; at = at }) → Plain (t .estimator .settings) (drop used s) → n ≡ lengthIn (drop used s)
+    → t .estimator .«startup_phase_length_blocks» ≤ oneMore (t .estimator .«blocks_since_reset»)
     → (record { state = next; refused = accepted; at = end; fits = true } ≡ stepAnswer t (recordIn (drop used s)) d at)
     × (out ≡ stepOver t (recordIn (drop used s)) d at)
     → Steps s from (record { state = next; used = used + 4 + n; out = out; at = end })
-unfolding further
-walk-on {s} {used = used} {n = n} steps plain (answer, over) =
-    let behind : used + 4 + n ≡ used + (4 + lengthIn (drop used s)) = omega (arith, plain .long) in
+unfolding further takes
+walk-on {s} {used = used} {n = n} steps plain long started (answer, over) =
+    let behind : used + 4 + n ≡ used + (4 + lengthIn (drop used s)) = omega (arith, long) in
     steps-more steps
-    (record {
-      whole = plain .whole;
-      fits = ap (λ (a : Stepped). a .fits) (sym answer);
-      passes = ap (λ (a : Stepped). a .refused) (sym answer);
-    })
+    (simp (
+      plain .whole,
+      eq-eqb _ _ (plain .kind),
+      ap (λ (a : Stepped). a .fits) (sym answer),
+      eq-eqb _ _ (ap (λ (a : Stepped). a .refused) (sym answer)),
+      le-leb _ _ started,
+      eq-eqb _ _ (plain .section),
+      eq-eqb _ _ (plain .flat),
+    ))
     (λ i. record { state = answer i .state; used = behind i; out = over i; at = answer i .at })
+
+-- ---- a record that is taken passes each test of the code
+
+module _ (s : List ℕ) (w : Walk) (taken : takes s w ≡ true) where
+  abbrev held : Trace
+  held = w .state
+
+  abbrev bytes : List ℕ
+  bytes = drop (w .used) s
+
+  abbrev next-record : List ℕ
+  next-record = recordIn bytes
+
+  each-test :
+      (framed bytes ≡ true) × (eqb (kindOf next-record) blockKind ≡ true) × (stepAnswer held next-record (w .out) (w .at) .fits ≡ true)
+      × (eqb (stepAnswer held next-record (w .out) (w .at) .refused) accepted ≡ true)
+      × (leb (held .estimator .«startup_phase_length_blocks») (oneMore (held .estimator .«blocks_since_reset»)) ≡ true)
+      × (oneSection (held .estimator .settings) ≡ true)
+  unfolding takes
+  each-test = each-of-six _ _ _ _ _ _ taken
+
+  pub taken-room : leb (w .at + mostText) (length (w .out)) ≡ true
+  unfolding stepAnswer
+  taken-room = go (leb (w .at + mostText) (length (w .out))) refl
+    where
+      go : (t : Bool) → leb (w .at + mostText) (length (w .out)) ≡ t → t ≡ true
+      go true e = refl
+      go false e = rw e at (each-test .2)
+
+  accepted-step : stepRefusal held next-record ≡ accepted
+  unfolding stepAnswer
+  accepted-step = rw taken-room at (eqb-true (stepAnswer held next-record (w .out) (w .at) .refused) accepted (each-test .3))
+
+  by-form-and-answer : (formRefusal (standingOf (held .estimator)) next-record ≡ accepted) × (answerOf (held .estimator) next-record .refused ≡ accepted)
+  unfolding stepRefusal
+  by-form-and-answer = first-of-passed _ _ accepted-step
+
+  pub taken-plain : Plain (held .estimator .settings) bytes
+  taken-plain =
+      let g = held .estimator .settings in
+      let settings = each-test .5 in
+      record {
+        whole = each-test .0;
+        kind = eqb-true _ _ (each-test .1);
+        form = by-form-and-answer .0;
+        section = eqb-true _ _ (and-left (eqb (g .«num_sections») 1) (eqb (g .«delay_headroom_samples») 0) settings);
+        flat = eqb-true _ _ (and-right (eqb (g .«num_sections») 1) (eqb (g .«delay_headroom_samples») 0) settings);
+      }
+
+  pub taken-started : leb (held .estimator .«startup_phase_length_blocks») (oneMore (held .estimator .«blocks_since_reset»)) ≡ true
+  taken-started = each-test .4
+
+  update-accepted : updateRefusal (held .estimator) (updateIn (channelsOf (held .estimator)) next-record) ≡ accepted
+  unfolding answerOf updateAnswer
+  update-accepted = sym (ap (λ (a : ErleAnswer). a .refused) (by-block (kindOf next-record) _ _ _ _ (taken-plain .kind))) ∙ by-form-and-answer .1
+
+  pub taken-state : stateOk (held .estimator) ≡ true
+  taken-state = accepted-call (held .estimator) (updateIn (channelsOf (held .estimator)) next-record) update-accepted .state
+
+  pub taken-values :
+      let n = channelsOf (held .estimator) in
+      valuesInRange (renderIn n next-record) (captureIn n next-record) (residualIn n next-record) ≡ true
+  unfolding blockValues
+  taken-values =
+      let n = channelsOf (held .estimator) in
+      passed (valuesInRange (renderIn n next-record) (captureIn n next-record) (residualIn n next-record)) 5 0
+      (sym (update-judged n next-record (held .estimator) refl taken-state (taken-plain .flat)) ∙ update-accepted)
 
 -- a channel's row after the block, of its subband record alone
 pub row-is :

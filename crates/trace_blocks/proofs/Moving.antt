@@ -7,12 +7,13 @@ use native.Mathlib.Omega.{arith}
 use borrow.Author.Count.{below-more}
 use lib.Dec.{eqb}
 use lib.Ieee.{Float}
-use lib.ListN.{length, getD, set}
+use lib.ListN.{length, getD, set, take}
+use lib.Seq.{getD-take, length-take-le}
 use Rattle.aec3_common.specs.Refusal.{accepted}
 use Rattle.aec3_common.specs.Spectra.{part, sum}
 use Rattle.aec3_common.proofs.Choices.{and-left, and-right}
-use Rattle.aec3_common.proofs.Every.{every-first}
-use Rattle.aec3_common.proofs.Tables.{Stored, getD-tab-first, stored-none, stored-more, stored-firsts}
+use Rattle.aec3_common.proofs.Every.{every-at, every-first}
+use Rattle.aec3_common.proofs.Tables.{Stored, length-tab, getD-tab-first, stored-none, stored-more, stored-firsts}
 use Rattle.subband_erle_estimator.specs.declared.settings.SubbandSettings.{SubbandSettings}
 use Rattle.subband_erle_estimator.specs.declared.channel.SubbandChannel.{SubbandChannel}
 use Rattle.subband_erle_estimator.specs.declared.SubbandErleEstimator.{SubbandErleEstimator}
@@ -55,9 +56,10 @@ module _ (s : ErleEstimator) (u : Update) where
     pub subband : Stored 4 Subband·noChannel 0 (s .settings .«num_capture_channels») subbandAt (s .subband) (r .subband) ch
     pub fullband : Stored 4 FullBand·noChannel 0 (s .settings .«num_capture_channels») fullbandAt (s .fullband) (r .fullband) ch
     pub passing : ok ≡ true → (j : ℕ) → j < ch → Passing j
+    pub told : ((j : ℕ) → j < ch → Passing j) → ok ≡ true
 
-  pub moving-none : {ok : Bool} → length (s .subband) ≡ 4 → length (s .fullband) ≡ 4 → Moving s 0 ok
-  moving-none four four-fullband =
+  pub moving-none : {ok : Bool} → ok ≡ true → length (s .subband) ≡ 4 → length (s .fullband) ≡ 4 → Moving s 0 ok
+  moving-none begun four four-fullband =
       record {
         settings = refl;
         startup = refl;
@@ -67,6 +69,7 @@ module _ (s : ErleEstimator) (u : Update) where
         subband = stored-none _ _ _ _ _ (omega arith) four;
         fullband = stored-none _ _ _ _ _ (omega arith) four-fullband;
         passing = λ ok j h. absurd (omega arith);
+        told = λ all. begun;
       }
 
   pub moving-more :
@@ -84,7 +87,7 @@ module _ (s : ErleEstimator) (u : Update) where
         fullband = set (r .fullband) ch f;
       })
       (ch + 1) ((ok && a) && b)
-  moving-more {ch = ch} {ok = ok} {a = a} {b = b} {c = c} {f = f} m h few subband fullband told told-fullband =
+  moving-more {ch = ch} {ok = ok} {a = a} {b = b} {c = c} {f = f} m h few subband fullband is is-fullband =
       record {
         settings = m .settings;
         startup = m .startup;
@@ -96,9 +99,13 @@ module _ (s : ErleEstimator) (u : Update) where
         passing = λ all.
             let firsts = and-left (ok && a) b all in
             below-more Passing ch (m .passing (and-left ok a firsts)) (
-              ap Subband·channelOk (sym subband) ∙ sym told ∙ and-right ok a firsts,
-              ap FullBand·channelOk (sym fullband) ∙ sym told-fullband ∙ and-right (ok && a) b all,
+              ap Subband·channelOk (sym subband) ∙ sym is ∙ and-right ok a firsts,
+              ap FullBand·channelOk (sym fullband) ∙ sym is-fullband ∙ and-right (ok && a) b all,
             );
+        told = λ all.
+            let before = m .told (λ j l. all j (omega arith)) in
+            let (own, own-fullband) = all ch (omega arith) in
+            simp (before, is ∙ ap Subband·channelOk subband ∙ own, is-fullband ∙ ap FullBand·channelOk fullband ∙ own-fullband);
       }
 
   -- the subband record, as the code has it
@@ -175,6 +182,27 @@ module _ (s : ErleEstimator) (u : Update) where
               fullband = fullband-all i;
             }
 
+        -- each record of a state that passes
+        subband-each : stateOk (updated s u) ≡ true → (j : ℕ) → j < s .settings .«num_capture_channels» → Subband·channelOk (Subband·channelAt moved j) ≡ true
+        unfolding Subband·stateOk updated Subband·updated
+        subband-each after j h =
+            let n = s .settings .«num_capture_channels» in
+            let all = and-right (eqb (Subband·settingsRefusal (subbandPart s .settings)) accepted) _ (subband-passed (updated s u) after) in
+            let size : length (moved .channels) ≡ 4 = length-tab 4 _ in
+            sym (ap Subband·channelOk (getD-take n (moved .channels) j Subband·noChannel h))
+            ∙ every-at Subband·channelOk (take n (moved .channels)) Subband·noChannel j all
+            (omega (arith, length-take-le n (moved .channels) (omega arith)))
+
+        fullband-each : stateOk (updated s u) ≡ true → (j : ℕ) → j < s .settings .«num_capture_channels» → FullBand·channelOk (FullBand·channelAt moved-fullband j) ≡ true
+        unfolding FullBand·stateOk updated FullBand·updated
+        fullband-each after j h =
+            let n = s .settings .«num_capture_channels» in
+            let all = and-right (eqb (FullBand·settingsRefusal (fullbandPart s .settings)) accepted) _ (fullband-passed (updated s u) after) in
+            let size : length (moved-fullband .channels) ≡ 4 = length-tab 4 _ in
+            sym (ap FullBand·channelOk (getD-take n (moved-fullband .channels) j FullBand·noChannel h))
+            ∙ every-at FullBand·channelOk (take n (moved-fullband .channels)) FullBand·noChannel j all
+            (omega (arith, length-take-le n (moved-fullband .channels) (omega arith)))
+
         same-signal : signalPart (updated s u) ≡ signalPart s
         unfolding updated
         same-signal =
@@ -203,3 +231,13 @@ module _ (s : ErleEstimator) (u : Update) where
           pub moving-ok : stateOk (updated s u) ≡ true
           unfolding stateOk
           moving-ok = simp (subband-ok, ap SignalDependent·stateOk same-signal ∙ signal-passed s before, fullband-ok)
+
+        -- and only then
+        pub moving-told : stateOk (updated s u) ≡ true → ok ≡ true
+        moving-told after =
+            m .told
+            (λ j h.
+            let l : j < s .settings .«num_capture_channels» = omega (arith, h, m .subband .to) in (
+              sym (ap Subband·channelOk (moved-at j l)) ∙ subband-each after j l,
+              sym (ap FullBand·channelOk (fullband-moved-at j l)) ∙ fullband-each after j l,
+            ))

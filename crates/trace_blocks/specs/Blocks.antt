@@ -1,11 +1,13 @@
 -- Many blocks at once: as steps, one after the other.
 use mathlib.Core.Path.{_≡_}
-use mathlib.Core.Bool.{Bool, true}
+use mathlib.Core.Bool.{Bool, true, false, cond, _&&_}
 use mathlib.Core.List.{List}
 use Prim.Native.Nat.{ℕ, zero, suc, _+_, _<_}
+use lib.Dec.{eqb, leb}
 use lib.Ieee.{nan}
 use lib.ListN.{drop, getD}
 use Rattle.aec3_common.specs.declared.settings.ErleSettings.{ErleSettings}
+use Rattle.aec3_common.specs.Counts.{oneMore}
 use Rattle.aec3_common.specs.Refusal.{accepted}
 use Rattle.aec3_common.specs.Streams.{erleOf}
 use Rattle.subband_erle_estimator.specs.declared.channel.SubbandChannel.{SubbandChannel}
@@ -25,6 +27,10 @@ pub record Walk : Type 0 where
   pub used : ℕ
   pub out : List ℕ
   pub at : ℕ
+
+-- one section and no headroom
+abbrev pub oneSection : ErleSettings → Bool
+oneSection g = eqb (g .«num_sections») 1 && eqb (g .«delay_headroom_samples») 0
 
 module _ (s : List ℕ) where
   -- the bytes ahead, and the record that they begin with
@@ -50,33 +56,42 @@ module _ (s : List ℕ) where
   walked zero w = w
   walked (suc k) w = further (walked k w)
 
-  -- the bytes ahead begin with a whole record, and a step finds room and accepts it
-  pub record Taken (w : Walk) : Type 0 where
-    pub whole : framed (ahead w) ≡ true
-    pub fits : stepped w .fits ≡ true
-    pub passes : stepped w .refused ≡ accepted
+  -- Whether the record ahead is taken: it is a whole block that a step finds room for and accepts, the startup phase ends with it or
+  -- before it, and the estimator has one section and no headroom, as in every run of a trace.
+  unfoldable pub takes : Walk → Bool
+  takes w =
+      let e = w .state .estimator in
+      framed (ahead w)
+      && eqb (kindOf (recordIn (ahead w))) blockKind
+      && stepped w .fits
+      && eqb (stepped w .refused) accepted
+      && leb (e .«startup_phase_length_blocks») (oneMore (e .«blocks_since_reset»))
+      && oneSection (e .settings)
 
-  -- Some steps, each of which finds room and is accepted; how many is left free.
-  pub record Steps (from to : Walk) : Type 0 where
+  -- a walk takes each record up to where it ends, and not the next
+  pub record Walked (from to : Walk) : Type 0 where
     pub count : ℕ
-    pub each : (k : ℕ) → k < count → Taken (walked k from)
+    pub each : (k : ℕ) → k < count → takes (walked k from) ≡ true
     pub last : to ≡ walked count from
+    pub ended : takes to ≡ false
 
--- What `step_blocks` gives is what some steps give.
+-- What `step_blocks` gives is what steps give, one after the other, for as long as the next record is taken.
 unfoldable pub BlocksStepped : Trace → (s d : List ℕ) (at : ℕ) (e : List ℕ) → SteppedBlocks → Type 0
 BlocksStepped t s d at e a =
-    Steps s (record { state = t; used = 0; out = d; at = at }) (record { state = a .state; used = a .used; out = e; at = a .at })
+    Walked s (record { state = t; used = 0; out = d; at = at }) (record { state = a .state; used = a .used; out = e; at = a .at })
 
 -- ---- what inner functions of the code promise; no part of the definition
 
--- bytes begin with a whole block whose form passes, and whose L is a number; the settings have one section and no headroom
-pub record Plain (g : ErleSettings) (s : List ℕ) (length : ℕ) : Type 0 where
-  pub whole : framed s ≡ true
-  pub long : length ≡ lengthIn s
-  pub kind : kindOf (recordIn s) ≡ blockKind
-  pub form : formRefusal (record { «num_capture_channels» = g .«num_capture_channels» }) (recordIn s) ≡ accepted
-  pub section : g .«num_sections» ≡ 1
-  pub flat : g .«delay_headroom_samples» ≡ 0
+-- bytes begin with a whole block whose form passes, and the settings have one section and no headroom
+unfoldable pub isPlain : ErleSettings → List ℕ → Bool
+isPlain g s =
+    framed s
+    && (oneSection g && eqb (kindOf (recordIn s)) blockKind)
+    && eqb (formRefusal (record { «num_capture_channels» = g .«num_capture_channels» }) (recordIn s)) accepted
+
+-- its L then, else 0
+unfoldable pub plainLength : ErleSettings → List ℕ → ℕ
+plainLength g s = cond (isPlain g s) (lengthIn s) 0
 
 -- a channel's row where there is one section
 unfoldable pub subbandRow : Bool → SubbandChannel → (band block ch : ℕ) → Item

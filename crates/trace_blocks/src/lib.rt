@@ -22,11 +22,11 @@ use trace_records::kind_of;
 use trace_records::records::BLOCK_KIND;
 use trace_text::put_row;
 ghost use mathlib.Core.Path.{_≡_};
-ghost use Prim.Native.Nat.{_<_, _≤_};
+ghost use Prim.Native.Nat.{_≤_};
 ghost use lib.ListN.{length};
 ghost use Rattle.encoding.specs.Text.{written, after};
 ghost use Rattle.trace_text.specs.Text.{line};
-ghost use Rattle.trace_blocks.specs.Blocks.{Plain, BlocksStepped, subbandRow};
+ghost use Rattle.trace_blocks.specs.Blocks.{plainLength, BlocksStepped, subbandRow};
 
 // The state after some blocks, how many bytes they are with their L, and the place behind their lines.
 pub struct SteppedBlocks {
@@ -38,7 +38,7 @@ pub struct SteppedBlocks {
 // The L of the block that the bytes begin with, or 0 where they begin with none whose form passes; for settings with one section and
 // no headroom, as a trace has them.
 fn plain_length(settings: ErleSettings, s: &[u8]) -> usize
-    ensures { λ r. ⌜ (0 < r → Plain settings (now (s .entry)) r) ⌝ }
+    ensures { λ r. ⌜ r ≡ plainLength settings (now (s .entry)) ⌝ }
 {
     let length = frame_length(s);
     if length == 0 {

@@ -1,8 +1,8 @@
 -- The outer loop walks on by one block, the inner one moves its channels and writes their rows.
 use borrow.Author.Needs.{needs}
-use borrow.Author.Tests.{leb-true, ltb-true, not-false}
+use borrow.Author.Tests.{leb-true, ltb-true, lt-ltb, not-true, not-false}
 use mathlib.Core.Path.{_≡_, refl, sym, ap, _∙_}
-use mathlib.Core.Bool.{Bool, true, false, _&&_}
+use mathlib.Core.Bool.{Bool, true, false, _&&_, true≢false}
 use mathlib.Core.List.{List}
 use Prim.Native.Nat.{ℕ, _+_, _-_, _*_, _≤_, _<_}
 use native.Mathlib.Omega.{arith}
@@ -30,15 +30,16 @@ use Rattle.erle_estimator.specs.Erle.{Update, stateOk, counted, updated}
 use Rattle.erle_estimator.proofs.Judged.{subband-passed, fullband-passed}
 use Rattle.trace_records.specs.Frames.{lengthIn, recordIn}
 use Rattle.trace_records.specs.Records.{blockIn, flagsIn, renderIn, captureIn, residualIn}
+use Rattle.trace_records.proofs.Framing.{framed-least}
 use Rattle.trace_records.proofs.Blocks.{Tables, block-tables, length-flags, length-render, length-capture, length-residual}
 use Rattle.trace_records.proofs.Judged.{BlockOk}
 use Rattle.trace_text.specs.Text.{lines}
 use Rattle.trace.specs.declared.Trace.{Trace}
 use Rattle.trace.specs.Apply.{channelsOf, standingOf, updateIn, rowAt}
-use Rattle.trace_blocks.specs.Blocks.{Walk, Steps, BlocksStepped, Plain, subbandRow}
-use Rattle.trace_blocks.proofs.InPlace.{steps-none, each-of-these, plain-ahead, plain-ends, record-ahead, block-form, block-stepped, walk-on, row-is}
+use Rattle.trace_blocks.specs.Blocks.{Walk, takes, BlocksStepped, plainLength, subbandRow}
+use Rattle.trace_blocks.proofs.InPlace.{Steps, steps-none, walk-ended, each-of-these, Plain, some-plain, plain-long, lent-ahead, plain-ends, record-ahead, block-form, block-stepped, walk-on, taken-room, taken-plain, taken-started, taken-state, taken-values, row-is}
 use Rattle.trace.proofs.Lines.{Listing, listing-none, listing-more}
-use Rattle.trace_blocks.proofs.Moving.{Moving, subbandAt, fullbandAt, moving-none, moving-more, moving-all, moving-ok, subband-moved, fullband-moved}
+use Rattle.trace_blocks.proofs.Moving.{Moving, subbandAt, fullbandAt, moving-none, moving-more, moving-all, moving-ok, moving-told, subband-moved, fullband-moved}
 use Rattle.trace_blocks.proofs.step_blocks.Statement.{statement}
 use Rattle.trace_blocks.proofs.step_blocks.Tie as tie
 
@@ -59,7 +60,7 @@ walk estimator band blocks records used out at =
 abbrev Inv-loop : tie.InvT-loop
 Inv-loop input out₀ at band estimator₀ blocks₀ records₀ state-ok₀ at₀ used₀ out estimator blocks records state-ok at' used =
     Steps input (walk estimator₀ band blocks₀ records₀ 0 out₀ at₀) (walk estimator band blocks records used out at')
-    × (used ≤ length input) × (length out ≡ length out₀) × (state-ok ≡ true → stateOk estimator ≡ true)
+    × (used ≤ length input) × (length out ≡ length out₀) × ((state-ok ≡ true → stateOk estimator ≡ true) × (stateOk estimator ≡ true → state-ok ≡ true))
     × (length (estimator .subband) ≡ 4) × (length (estimator .fullband) ≡ 4)
 
 abbrev μ-loop : tie.MeasureT-loop
@@ -67,15 +68,7 @@ abbrev μ-loop : tie.MeasureT-loop
     length input - used
 
 loop-holds : tie.Need-loop-holds Inv-loop2 μ-loop2 Inv-loop μ-loop
-loop-holds c = (steps-none _ _, omega arith, refl, λ e. sym (c .ok .ensures) ∙ e, search (needs, length-mapped), search (needs, length-mapped))
-
-returns : tie.Need-returns Inv-loop2 μ-loop2 Inv-loop μ-loop
-unfolding BlocksStepped
-returns c = (c .before .before .before .before .before .before .loop .inv .0, c .before .before .before .before .before .before .loop .inv .1)
-
-returns-2 : tie.Need-returns-2 Inv-loop2 μ-loop2 Inv-loop μ-loop
-unfolding BlocksStepped
-returns-2 c = (c .before .before .before .before .before .before .before .before .before .before .before .before .before .before .before .before .before .loop .inv .0, c .before .before .before .before .before .before .before .before .before .before .before .before .before .before .before .before .before .loop .inv .1)
+loop-holds c = (steps-none _ _, omega arith, refl, (λ e. sym (c .ok .ensures) ∙ e, λ e. c .ok .ensures ∙ e), search (needs, length-mapped), search (needs, length-mapped))
 
 -- ---- a turn: the tests that it has passed
 
@@ -97,13 +90,19 @@ tests :
 tests c = each-of-these _ _ _ _ (not-false _ (c .if1 .left))
 
 passes : (c : Turn) → stateOk (before c .estimator) ≡ true
-passes c = c .before .before .before .before .before .before .loop .inv .3 (tests c .0)
+passes c = c .before .before .before .before .before .before .loop .inv .3 .0 (tests c .0)
 
 started : (c : Turn) → before c .estimator .«startup_phase_length_blocks» ≤ oneMore (before c .estimator .«blocks_since_reset»)
 started c = omega (arith, leb-true (before c .estimator .«startup_phase_length_blocks») (c .before .before .before .before .one-more .result) (tests c .1), c .before .before .before .before .one-more .ensures)
 
-plain : (c : Turn) → Plain (before c .estimator .settings) (ahead c) (c .before .before .plain-length .result)
-plain c = plain-ahead (c .before .before .before .before .before .before .before .before .before .before .before .args .input .now) (c .before .before .before .before .before .before .loop .used) (c .before .before .plain-length .ensures (ltb-true _ _ (tests c .2)))
+length-is : (c : Turn) → c .before .before .plain-length .result ≡ plainLength (before c .estimator .settings) (ahead c)
+length-is c = c .before .before .plain-length .ensures ∙ ap (plainLength (before c .estimator .settings)) (lent-ahead (c .before .before .before .before .before .before .before .before .before .before .before .args .input .now) (c .before .before .before .before .before .before .loop .used))
+
+plain : (c : Turn) → Plain (before c .estimator .settings) (ahead c)
+plain c = some-plain _ _ (omega (arith, length-is c, ltb-true 0 (c .before .before .plain-length .result) (tests c .2)))
+
+long : (c : Turn) → c .before .before .plain-length .result ≡ lengthIn (ahead c)
+long c = length-is c ∙ plain-long _ _ (plain c)
 
 room : (c : Turn) → leb (c .before .before .before .before .before .before .loop .at + 196) (length (c .before .before .before .before .before .before .loop .out)) ≡ true
 room c = sym (c .before .has-room .ensures) ∙ tests c .3
@@ -115,7 +114,7 @@ few : (c : Turn) → channelsOf (before c .estimator) ≤ 4
 few c = form c .few
 
 ends : (c : Turn) → c .before .before .before .before .before .before .loop .used + 4 + c .before .before .plain-length .result ≤ length (c .before .before .before .before .before .before .before .before .before .before .before .args .input .now)
-ends c = plain-ends (c .before .before .before .before .before .before .before .before .before .before .before .args .input .now) (c .before .before .before .before .before .before .loop .used) (c .before .before .before .before .before .before .loop .inv .1) (plain c)
+ends c = omega (arith, long c, plain-ends (c .before .before .before .before .before .before .before .before .before .before .before .args .input .now) (c .before .before .before .before .before .before .loop .used) (c .before .before .before .before .before .before .loop .inv .1) (plain c))
 
 -- ---- the block
 
@@ -123,7 +122,7 @@ tables : (c : tie.After-block-in Inv-loop2 μ-loop2 Inv-loop μ-loop) → Tables
 tables c =
     let turn = c .before .before in
     block-tables _ _ _ (few turn) (form turn .long)
-    (c .block-in .ensures ∙ ap (blockIn (channelsOf (before turn .estimator))) (record-ahead (c .before .before .before .before .before .before .before .before .before .before .before .before .before .args .input .now) (c .before .before .before .before .before .before .before .before .loop .used) (plain turn .long)))
+    (c .block-in .ensures ∙ ap (blockIn (channelsOf (before turn .estimator))) (record-ahead (c .before .before .before .before .before .before .before .before .before .before .before .before .before .args .input .now) (c .before .before .before .before .before .before .before .before .loop .used) (long turn)))
 
 render-long : (c : tie.After-block-in Inv-loop2 μ-loop2 Inv-loop μ-loop) → length (c .block-in .result .x2) ≡ 65
 render-long c = ap length (tables c .render) ∙ length-render (channelsOf (before (c .before .before) .estimator)) (recordIn (ahead (c .before .before)))
@@ -147,7 +146,7 @@ min-erle-log2-requires c κs =
 loop2-holds : tie.Need-loop2-holds Inv-loop2 μ-loop2 Inv-loop μ-loop
 loop2-holds c =
     let turn = c .before .before .before .before .before .before .before .before .before .before .before .before .before .before .before .before .before .before .before in
-    (moving-none _ _ (c .before .before .before .before .before .before .before .before .before .before .before .before .before .before .before .before .before .before .before .before .before .before .before .before .before .loop .inv .4) (c .before .before .before .before .before .before .before .before .before .before .before .before .before .before .before .before .before .before .before .before .before .before .before .before .before .loop .inv .5), listing-none _ _ _ _ (omega (arith, leb-true (c .before .before .before .before .before .before .before .before .before .before .before .before .before .before .before .before .before .before .before .before .before .before .before .before .before .loop .at + 196) (length (c .before .before .before .before .before .before .before .before .before .before .before .before .before .before .before .before .before .before .before .before .before .before .before .before .before .loop .out)) (room turn), few turn)))
+    (moving-none _ _ (tests turn .0) (c .before .before .before .before .before .before .before .before .before .before .before .before .before .before .before .before .before .before .before .before .before .before .before .before .before .loop .inv .4) (c .before .before .before .before .before .before .before .before .before .before .before .before .before .before .before .before .before .before .before .before .before .before .before .before .before .loop .inv .5), listing-none _ _ _ _ (omega (arith, leb-true (c .before .before .before .before .before .before .before .before .before .before .before .before .before .before .before .before .before .before .before .before .before .before .before .before .before .loop .at + 196) (length (c .before .before .before .before .before .before .before .before .before .before .before .before .before .before .before .before .before .before .before .before .before .before .before .before .before .loop .out)) (room turn), few turn)))
 
 below : (c : tie.In-loop2 Inv-loop2 μ-loop2 Inv-loop μ-loop) → c .before .loop2 .ch < 4
 below c = omega (arith, c .loop2-test .taken, few (c .before .before .before .before .before .before .before .before .before .before .before .before .before .before .before .before .before .before .before .before .before))
@@ -294,11 +293,19 @@ last c = omega (arith, c .before .loop2 .inv .1 .to, c .loop2-test .left)
 moved : (c : tie.After-loop2 Inv-loop2 μ-loop2 Inv-loop μ-loop) → c .before .loop2 .estimator ≡ updated (from (c .before)) (update (c .before .before .before .before .before .before .before .before .before .before .before .before .before .before .before .before .before .before .before .before .before))
 moved c = moving-all (from (c .before)) (update (c .before .before .before .before .before .before .before .before .before .before .before .before .before .before .before .before .before .before .before .before .before)) (few (c .before .before .before .before .before .before .before .before .before .before .before .before .before .before .before .before .before .before .before .before .before)) (c .before .loop2 .inv .0) (omega (arith, last c)) (plain (c .before .before .before .before .before .before .before .before .before .before .before .before .before .before .before .before .before .before .before .before .before) .section)
 
-still-passes : (c : tie.After-loop2 Inv-loop2 μ-loop2 Inv-loop μ-loop) → c .before .loop2 .state-ok ≡ true → stateOk (c .before .loop2 .estimator) ≡ true
+still-passes :
+    (c : tie.After-loop2 Inv-loop2 μ-loop2 Inv-loop μ-loop)
+    → (c .before .loop2 .state-ok ≡ true → stateOk (c .before .loop2 .estimator) ≡ true)
+    × (stateOk (c .before .loop2 .estimator) ≡ true → c .before .loop2 .state-ok ≡ true)
 unfolding stateOk
-still-passes c all =
-    ap stateOk (moved c)
-    ∙ moving-ok (from (c .before)) (update (c .before .before .before .before .before .before .before .before .before .before .before .before .before .before .before .before .before .before .before .before .before)) (few (c .before .before .before .before .before .before .before .before .before .before .before .before .before .before .before .before .before .before .before .before .before)) (c .before .loop2 .inv .0) (omega (arith, last c)) (plain (c .before .before .before .before .before .before .before .before .before .before .before .before .before .before .before .before .before .before .before .before .before) .section) (passes (c .before .before .before .before .before .before .before .before .before .before .before .before .before .before .before .before .before .before .before .before .before)) all
+still-passes c =
+    let s = from (c .before) in
+    let u = update (c .before .before .before .before .before .before .before .before .before .before .before .before .before .before .before .before .before .before .before .before .before) in
+    let m = c .before .loop2 .inv .0 in
+    let section = plain (c .before .before .before .before .before .before .before .before .before .before .before .before .before .before .before .before .before .before .before .before .before) .section in (
+      λ all. ap stateOk (moved c) ∙ moving-ok s u (few (c .before .before .before .before .before .before .before .before .before .before .before .before .before .before .before .before .before .before .before .before .before)) m (omega (arith, last c)) section (passes (c .before .before .before .before .before .before .before .before .before .before .before .before .before .before .before .before .before .before .before .before .before)) all,
+      λ ok. moving-told s u (few (c .before .before .before .before .before .before .before .before .before .before .before .before .before .before .before .before .before .before .before .before .before)) m (omega (arith, last c)) section (sym (ap stateOk (moved c)) ∙ ok),
+    )
 
 loop-again : tie.Need-loop-again Inv-loop2 μ-loop2 Inv-loop μ-loop
 loop-again c =
@@ -312,12 +319,51 @@ loop-again c =
     let stepped = block-stepped (before turn) (ahead turn) (plain turn) (passes turn) (values (c .before .before .before .before .before .before .before .before .before .before)) (started turn) (c .before .before .before .before .before .before .before .before .before .before .before .before .before .before .before .before .before .before .before .before .before .before .before .before .before .before .before .loop .out) (c .before .before .before .before .before .before .before .before .before .before .before .before .before .before .before .before .before .before .before .before .before .before .before .before .before .before .before .loop .at) (room turn)
     (after ∙ ap (λ e. updated e (update turn)) is) (c .before .before .before .one-more2 .ensures) (c .before .before .one-more3 .ensures)
     (text .text ∙ ap (laid (c .before .before .before .before .before .before .before .before .before .before .before .before .before .before .before .before .before .before .before .before .before .before .before .before .before .before .before .loop .out) (c .before .before .before .before .before .before .before .before .before .before .before .before .before .before .before .before .before .before .before .before .before .before .before .before .before .before .before .loop .at)) all, text .place ∙ ap (λ l. c .before .before .before .before .before .before .before .before .before .before .before .before .before .before .before .before .before .before .before .before .before .before .before .before .before .before .before .loop .at + length l) all) in (
-      walk-on (c .before .before .before .before .before .before .before .before .before .before .before .before .before .before .before .before .before .before .before .before .before .before .before .before .before .before .before .loop .inv .0) (plain turn) stepped,
+      walk-on (c .before .before .before .before .before .before .before .before .before .before .before .before .before .before .before .before .before .before .before .before .before .before .before .before .before .before .before .loop .inv .0) (plain turn) (long turn) (started turn) stepped,
       ends turn,
       wrote-long text ∙ c .before .before .before .before .before .before .before .before .before .before .before .before .before .before .before .before .before .before .before .before .before .before .before .before .before .before .before .loop .inv .2,
       still-passes c,
       at .inv .0 .subband .long,
       at .inv .0 .fullband .long,
+    )
+
+-- ---- the end of the walk
+
+-- where the walk stands
+abbrev here : tie.At-loop Inv-loop2 μ-loop2 Inv-loop μ-loop → Walk
+here c = walk (c .loop .estimator) (c .before .before .before .before .before .args .t .band) (c .loop .blocks) (c .loop .records) (c .loop .used) (c .loop .out) (c .loop .at)
+
+-- a record that is taken passes the tests
+all-pass :
+    (c : tie.After-has-room Inv-loop2 μ-loop2 Inv-loop μ-loop) → takes (c .before .before .before .before .before .before .before .before .before .before .args .input .now) (here (c .before .before .before .before .before)) ≡ true
+    → (((c .before .before .before .before .before .loop .state-ok && leb (c .before .before .before .before .before .loop .estimator .«startup_phase_length_blocks») (c .before .before .before .one-more .result)) && ltb 0 (c .before .plain-length .result)) && c .has-room .result) ≡ true
+all-pass c taken =
+    let input = c .before .before .before .before .before .before .before .before .before .before .args .input .now in
+    let w = here (c .before .before .before .before .before) in
+    let plain = taken-plain input w taken in
+    let long = c .before .plain-length .ensures ∙ ap (plainLength (w .state .estimator .settings)) (lent-ahead input (w .used)) ∙ plain-long _ _ plain in
+    simp (
+      c .before .before .before .before .before .loop .inv .3 .1 (taken-state input w taken),
+      ap (leb (w .state .estimator .«startup_phase_length_blocks»)) (c .before .before .before .one-more .ensures) ∙ taken-started input w taken,
+      lt-ltb 0 (c .before .plain-length .result) (omega (arith, long, framed-least (drop (w .used) input) (plain .whole))),
+      c .has-room .ensures ∙ taken-room input w taken,
+    )
+
+returns : tie.Need-returns Inv-loop2 μ-loop2 Inv-loop μ-loop
+unfolding BlocksStepped
+returns c =
+    (walk-ended (c .before .before .before .before .before .before .loop .inv .0) (λ taken. true≢false (sym (all-pass (c .before) taken) ∙ not-true _ (c .if1 .taken))), c .before .before .before .before .before .before .loop .inv .1)
+
+returns-2 : tie.Need-returns-2 Inv-loop2 μ-loop2 Inv-loop μ-loop
+unfolding BlocksStepped
+returns-2 c =
+    let t = tables (c .before .before .before .before .before .before .before .before .before) in
+    let no-values = c .before .all-values-ok .ensures in (
+      walk-ended (c .before .before .before .before .before .before .before .before .before .before .before .before .before .before .before .before .before .loop .inv .0)
+          (λ taken.
+          true≢false
+          (sym (no-values ∙ (rw (t .render, t .capture, t .residual) (taken-values (c .before .before .before .before .before .before .before .before .before .before .before .before .before .before .before .before .before .before .before .before .before .before .args .input .now) (here (c .before .before .before .before .before .before .before .before .before .before .before .before .before .before .before .before .before)) taken))) ∙ not-true _ (c .if2 .taken))),
+      c .before .before .before .before .before .before .before .before .before .before .before .before .before .before .before .before .before .loop .inv .1,
     )
 
 pub step-blocks-spec : {M : Type 1} → statement M
