@@ -30,12 +30,12 @@ stepText t r =
     let n = stepRefusal t r in
     cond (blamesState n) [] (lines (itemsBy n t r))
 
--- the longest that they can be: four rows
+-- room enough for them: four rows of at most 49 bytes
 abbrev pub mostText : ℕ
 mostText = 196
 
--- The answer: the next state, or for a refused record the same, with the number; and the place behind the lines. Without room for the
--- longest lines nothing happens.
+-- The answer: the next state, or for a refused record the same, with the number; and the place behind the lines. Without that
+-- room nothing happens.
 unfoldable pub stepAnswer : Trace → List ℕ → List ℕ → ℕ → Stepped
 stepAnswer t r d at =
     let n = stepRefusal t r in

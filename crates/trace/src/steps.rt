@@ -28,7 +28,7 @@ ghost use Rattle.trace_text.specs.Text.{refused, line, lines};
 ghost use Rattle.trace.specs.Apply.{beginning as Apply·beginning, channelsOf, bandAfter, blocksAfter, rowsIf};
 ghost use Rattle.trace.specs.Steps.{refusalText, RefusedBy, stepAnswer, stepOver};
 
-// The longest lines that a record gives: a row for each of four channels.
+// Room enough for the lines of a record: four rows of at most 49 bytes.
 pub const MOST_TEXT: usize = 196;
 
 // The state after a record; the place behind its lines; the number under which it was refused, or 0; and whether there was room.
@@ -65,7 +65,7 @@ pub fn beginning() -> Trace
     }
 }
 
-// Whether the longest lines end within so many bytes. The sum is not made, since it might not be a usize.
+// Whether there is that room behind a place, within so many bytes. The sum is not made, since it might not be a usize.
 pub fn has_room(size: usize, at: usize) -> bool
     ensures { λ r. ⌜ r ≡ leb (at + 196) size ⌝ }
 {

@@ -4,7 +4,6 @@ use mathlib.Core.Bool.{Bool, true, false, cond, _&&_, false≢true}
 use mathlib.Core.List.{List, []}
 use Prim.Native.Nat.{ℕ, zero, suc, _+_, _-_, _≤_, _<_}
 use native.Mathlib.Omega.{arith}
-use borrow.Author.Count.{below-more}
 use borrow.Author.Tests.{eq-eqb, eqb-true, le-leb, le-ltb}
 use lib.Dec.{eqb, leb, ltb}
 use lib.ListN.{length, take, drop, length-drop}
@@ -31,7 +30,7 @@ use Rattle.trace_text.specs.Text.{Item, lines}
 use Rattle.trace.specs.declared.Trace.{Trace}
 use Rattle.trace.specs.declared.steps.Stepped.{Stepped}
 use Rattle.trace.specs.Apply.{channelsOf, standingOf, updateIn, answerOf, bandAfter, blocksAfter, nextOf, rowOf, rowAt, rowsIf, rowsOf}
-use Rattle.trace_blocks.specs.Blocks.{oneSection, Walk, further, walked, takes, Walked, isPlain, plainLength, subbandRow}
+use Rattle.trace_blocks.specs.Blocks.{Walk, oneSectionNoHeadroom, further, takes, walk, isBlockFrame, blockFrameLength, subbandRow}
 use Rattle.trace.specs.Steps.{mostText, stepRefusal, stepAnswer, stepOver}
 use Rattle.trace.proofs.Judged.{update-judged}
 use Rattle.trace_blocks.proofs.Moving.{subbandAt, moved-at}
@@ -39,34 +38,37 @@ use Rattle.trace.proofs.Stepping.{by-answer, step-accepted}
 
 -- ---- walks
 
--- A walk on its way: each record behind it was taken.
-pub record Steps (s : List ℕ) (from to : Walk) : Type 0 where
-  pub count : ℕ
-  pub each : (k : ℕ) → k < count → takes s (walked s k from) ≡ true
-  pub last : to ≡ walked s count from
+-- A walk on its way: as many steps are left to it as there are bytes, or more.
+pub record OnItsWay (s : List ℕ) (from w : Walk) : Type 0 where
+  pub most : ℕ
+  pub enough : length s ≤ w .used + most
+  pub same : walk s (length s) from ≡ walk s most w
+
+pub walk-begun : (s : List ℕ) (from : Walk) → OnItsWay s from from
+walk-begun s from = record { most = length s; enough = omega arith; same = refl }
+
+-- one step more
+walk-more :
+    {s : List ℕ} {from w next : Walk} → OnItsWay s from w → takes s w ≡ true → w .used < length s → w .used < next .used → next ≡ further s w
+    → OnItsWay s from next
+unfolding walk
+walk-more {s} {from} {w} {next} way taken some longer is = go (way .most) (way .enough) (way .same)
+  where
+    go : (most : ℕ) → length s ≤ w .used + most → walk s (length s) from ≡ walk s most w → OnItsWay s from next
+    go zero enough same = absurd (omega (arith, some, enough))
+    go (suc most) enough same =
+        let on : walk s (suc most) w ≡ walk s most (further s w) = rw taken in
+        record { most = most; enough = omega (arith, enough, longer); same = same ∙ on ∙ ap (walk s most) (sym is) }
 
 -- and where it ends
-pub walk-ended : {s : List ℕ} {from to : Walk} → Steps s from to → (takes s to ≡ true → ⊥) → Walked s from to
-walk-ended {s} {to = to} steps none =
-    record { count = steps .count; each = steps .each; last = steps .last; ended = go (takes s to) refl }
+pub walk-ended : {s : List ℕ} {from w : Walk} → OnItsWay s from w → (takes s w ≡ true → ⊥) → w ≡ walk s (length s) from
+unfolding walk
+walk-ended {s} {from} {w} way none = go (way .most) (takes s w) refl ∙ sym (way .same)
   where
-    go : (t : Bool) → takes s to ≡ t → t ≡ false
-    go true e = absurd (none e)
-    go false e = refl
-
-pub steps-none : (s : List ℕ) (w : Walk) → Steps s w w
-unfolding walked
-steps-none s w = record { count = 0; each = λ k h. absurd (omega arith); last = refl }
-
-pub steps-more : {s : List ℕ} {from w next : Walk} → Steps s from w → takes s w ≡ true → next ≡ further s w → Steps s from next
-unfolding walked
-steps-more {s} {from} {w} {next} steps taken is =
-    record {
-      count = suc (steps .count);
-      each = λ k h.
-          below-more (λ k. takes s (walked s k from) ≡ true) (steps .count) (steps .each) (rw (← steps .last) taken) k (omega (arith, h));
-      last = is ∙ ap (further s) (steps .last);
-    }
+    go : (most : ℕ) (t : Bool) → takes s w ≡ t → w ≡ walk s most w
+    go zero t e = refl
+    go (suc most) true e = absurd (none e)
+    go (suc most) false e = sym (rw e)
 
 -- ---- tests
 
@@ -106,9 +108,9 @@ whole-is s is some =
       room = omega (arith, long, framed-room s ok);
     }
 
--- ---- a plain block
+-- ---- a block frame
 
-pub record Plain (g : ErleSettings) (s : List ℕ) : Type 0 where
+pub record BlockFrame (g : ErleSettings) (s : List ℕ) : Type 0 where
   pub whole : framed s ≡ true
   pub kind : kindOf (recordIn s) ≡ blockKind
   pub form : formRefusal (record { «num_capture_channels» = g .«num_capture_channels» }) (recordIn s) ≡ accepted
@@ -122,9 +124,9 @@ module _ (g : ErleSettings) (s : List ℕ) where
   abbrev formOk : Bool
   formOk = eqb (formRefusal (record { «num_capture_channels» = g .«num_capture_channels» }) (recordIn s)) accepted
 
-  pub plain-of : isPlain g s ≡ true → Plain g s
-  unfolding isPlain
-  plain-of all =
+  pub frame-of : isBlockFrame g s ≡ true → BlockFrame g s
+  unfolding isBlockFrame
+  frame-of all =
       let one = eqb (g .«num_sections») 1 in
       let flat = eqb (g .«delay_headroom_samples») 0 in
       let (whole, two, form) = each-of-three (framed s) ((one && flat) && isBlock) formOk all in
@@ -137,35 +139,35 @@ module _ (g : ErleSettings) (s : List ℕ) where
         flat = eqb-true _ _ (and-right one flat settings);
       }
 
-  pub is-plain : Plain g s → isPlain g s ≡ true
-  unfolding isPlain
-  is-plain p = simp (p .whole, eq-eqb _ _ (p .kind), eq-eqb _ _ (p .form), eq-eqb _ _ (p .section), eq-eqb _ _ (p .flat))
+  pub is-frame : BlockFrame g s → isBlockFrame g s ≡ true
+  unfolding isBlockFrame
+  is-frame p = simp (p .whole, eq-eqb _ _ (p .kind), eq-eqb _ _ (p .form), eq-eqb _ _ (p .section), eq-eqb _ _ (p .flat))
 
-  -- a length is given for a plain block
-  pub some-plain : 0 < plainLength g s → Plain g s
-  unfolding plainLength
-  some-plain some = go (isPlain g s) refl
+  -- a length is given for a block frame
+  pub some-frame : 0 < blockFrameLength g s → BlockFrame g s
+  unfolding blockFrameLength
+  some-frame some = go (isBlockFrame g s) refl
     where
-      go : (t : Bool) → isPlain g s ≡ t → Plain g s
-      go true e = plain-of e
+      go : (t : Bool) → isBlockFrame g s ≡ t → BlockFrame g s
+      go true e = frame-of e
       go false e = absurd (omega (arith, rw e at some))
 
-  pub plain-long : Plain g s → plainLength g s ≡ lengthIn s
-  unfolding plainLength
-  plain-long p = rw (is-plain p)
+  pub frame-long : BlockFrame g s → blockFrameLength g s ≡ lengthIn s
+  unfolding blockFrameLength
+  frame-long p = rw (is-frame p)
 
   -- bytes that begin with no whole record
-  pub plain-none : frameLength s ≡ 0 → 0 ≡ plainLength g s
-  unfolding plainLength isPlain
-  plain-none none = sym (rw (no-length-framed s none))
+  pub frame-none : frameLength s ≡ 0 → 0 ≡ blockFrameLength g s
+  unfolding blockFrameLength isBlockFrame
+  frame-none none = sym (rw (no-length-framed s none))
 
-  -- the tests of `plain_length`
-  pub plain-by :
+  -- the tests of `block_frame_length`
+  pub frame-by :
       {n : ℕ} → Whole s n → {kind form : ℕ}
       → kind ≡ kindOf (take (4 + n - 4) (drop 4 s)) → form ≡ formRefusal (record { «num_capture_channels» = g .«num_capture_channels» }) (take (4 + n - 4) (drop 4 s))
-      → (t : Bool) → (oneSection g && eqb kind blockKind) && eqb form accepted ≡ t → cond t n 0 ≡ plainLength g s
-  unfolding plainLength isPlain
-  plain-by {n} w {kind} {form} of-kind of-form t e =
+      → (t : Bool) → (oneSectionNoHeadroom g && eqb kind blockKind) && eqb form accepted ≡ t → cond t n 0 ≡ blockFrameLength g s
+  unfolding blockFrameLength isBlockFrame
+  frame-by {n} w {kind} {form} of-kind of-form t e =
       let size : 4 + n - 4 ≡ lengthIn s = omega (arith, w .long) in
       let same-kind = rw size at of-kind in
       let same-form = rw size at of-form in
@@ -183,12 +185,12 @@ pub lent-ahead : (s : List ℕ) (used : ℕ) → take (length s - used) (drop us
 lent-ahead s used = take-all (length s - used) (drop used s) (omega (arith, length-drop used s))
 
 -- where the record ends
-pub plain-ends : (s : List ℕ) (used : ℕ) {g : ErleSettings} → used ≤ length s → Plain g (drop used s) → used + 4 + lengthIn (drop used s) ≤ length s
-plain-ends s used within plain = omega (arith, framed-room (drop used s) (plain .whole), length-drop used s)
+pub frame-ends : (s : List ℕ) (used : ℕ) {g : ErleSettings} → used ≤ length s → BlockFrame g (drop used s) → used + 4 + lengthIn (drop used s) ≤ length s
+frame-ends s used within frame = omega (arith, framed-room (drop used s) (frame .whole), length-drop used s)
 
 -- ---- a block
 
-module _ (t : Trace) (s : List ℕ) (plain : Plain (t .estimator .settings) s) where
+module _ (t : Trace) (s : List ℕ) (frame : BlockFrame (t .estimator .settings) s) where
   abbrev e : ErleEstimator
   e = t .estimator
 
@@ -200,7 +202,7 @@ module _ (t : Trace) (s : List ℕ) (plain : Plain (t .estimator .settings) s) w
   blockUpdate = updateIn (channelsOf e) r
 
   pub block-form : BlockOk (standingOf e) r
-  block-form = block-ok (standingOf e) r (plain .form) (plain .kind)
+  block-form = block-ok (standingOf e) r (frame .form) (frame .kind)
 
   -- the estimator and the rows after it
   abbrev after : ErleEstimator
@@ -212,30 +214,30 @@ module _ (t : Trace) (s : List ℕ) (plain : Plain (t .estimator .settings) s) w
     where
       update-passes : updateRefusal e blockUpdate ≡ accepted
       unfolding blockValues
-      update-passes = update-judged (channelsOf e) r e refl ok (plain .flat) ∙ rw values
+      update-passes = update-judged (channelsOf e) r e refl ok (frame .flat) ∙ rw values
 
       answer-is : answerOf e r ≡ record { state = after; refused = accepted }
       unfolding answerOf updateAnswer afterAccepted counted
       answer-is =
-          by-block (kindOf r) _ _ _ _ (plain .kind)
+          by-block (kindOf r) _ _ _ _ (frame .kind)
           ∙ rw (update-passes, le-ltb (oneMore (e .«blocks_since_reset»)) (e .«startup_phase_length_blocks») started)
 
       passes : stepRefusal t r ≡ accepted
-      passes = sym (by-answer t r (plain .form) (sym (ap (λ (a : ErleAnswer). a .refused) answer-is)))
+      passes = sym (by-answer t r (frame .form) (sym (ap (λ (a : ErleAnswer). a .refused) answer-is)))
 
       next-is : nextOf t r ≡ record { estimator = after; band = t .band; blocks = oneMore (t .blocks); records = oneMore (t .records) }
       unfolding nextOf bandAfter blocksAfter
       next-is =
           λ i. record {
             estimator = answer-is i .state;
-            band = by-block (kindOf r) (bandIn r) (t .band) (t .band) (t .band) (plain .kind) i;
-            blocks = by-block (kindOf r) (t .blocks) (oneMore (t .blocks)) (t .blocks) (t .blocks) (plain .kind) i;
+            band = by-block (kindOf r) (bandIn r) (t .band) (t .band) (t .band) (frame .kind) i;
+            blocks = by-block (kindOf r) (t .blocks) (oneMore (t .blocks)) (t .blocks) (t .blocks) (frame .kind) i;
             records = oneMore (t .records);
           }
 
       rows-are : rowsOf t r ≡ tab (channelsOf e) (rowAt after (t .band) (oneMore (t .blocks)))
       unfolding rowsOf rowsIf updated counted
-      rows-are = rw next-is (by-block (kindOf r) [] (tab (channelsOf e) (rowAt after (t .band) (oneMore (t .blocks)))) [] [] (plain .kind))
+      rows-are = rw next-is (by-block (kindOf r) [] (tab (channelsOf e) (rowAt after (t .band) (oneMore (t .blocks)))) [] [] (frame .kind))
 
       pub block-stepped :
           (d : List ℕ) (at : ℕ) → leb (at + mostText) (length d) ≡ true
@@ -259,24 +261,26 @@ module _ (t : Trace) (s : List ℕ) (plain : Plain (t .estimator .settings) s) w
 -- the walk goes on by it
 pub walk-on :
     {s : List ℕ} {from : Walk} {t : Trace} {used : ℕ} {d : List ℕ} {at : ℕ} {n : ℕ} {next : Trace} {out : List ℕ} {end : ℕ}
-    → Steps s from (record { state = t; used = used; out = d; at = at }) → Plain (t .estimator .settings) (drop used s) → n ≡ lengthIn (drop used s)
+    → OnItsWay s from (record { state = t; used = used; out = d; at = at }) → BlockFrame (t .estimator .settings) (drop used s) → n ≡ lengthIn (drop used s)
     → t .estimator .«startup_phase_length_blocks» ≤ oneMore (t .estimator .«blocks_since_reset»)
     → (record { state = next; refused = accepted; at = end; fits = true } ≡ stepAnswer t (recordIn (drop used s)) d at)
     × (out ≡ stepOver t (recordIn (drop used s)) d at)
-    → Steps s from (record { state = next; used = used + 4 + n; out = out; at = end })
+    → OnItsWay s from (record { state = next; used = used + 4 + n; out = out; at = end })
 unfolding further takes
-walk-on {s} {used = used} {n = n} steps plain long started (answer, over) =
+walk-on {s} {used = used} {n = n} way frame long started (answer, over) =
     let behind : used + 4 + n ≡ used + (4 + lengthIn (drop used s)) = omega (arith, long) in
-    steps-more steps
+    walk-more way
     (simp (
-      plain .whole,
-      eq-eqb _ _ (plain .kind),
+      frame .whole,
+      eq-eqb _ _ (frame .kind),
       ap (λ (a : Stepped). a .fits) (sym answer),
       eq-eqb _ _ (ap (λ (a : Stepped). a .refused) (sym answer)),
       le-leb _ _ started,
-      eq-eqb _ _ (plain .section),
-      eq-eqb _ _ (plain .flat),
+      eq-eqb _ _ (frame .section),
+      eq-eqb _ _ (frame .flat),
     ))
+    (omega (arith, framed-room (drop used s) (frame .whole), length-drop used s))
+    (omega arith)
     (λ i. record { state = answer i .state; used = behind i; out = over i; at = answer i .at })
 
 -- ---- a record that is taken passes each test of the code
@@ -295,7 +299,7 @@ module _ (s : List ℕ) (w : Walk) (taken : takes s w ≡ true) where
       (framed bytes ≡ true) × (eqb (kindOf next-record) blockKind ≡ true) × (stepAnswer held next-record (w .out) (w .at) .fits ≡ true)
       × (eqb (stepAnswer held next-record (w .out) (w .at) .refused) accepted ≡ true)
       × (leb (held .estimator .«startup_phase_length_blocks») (oneMore (held .estimator .«blocks_since_reset»)) ≡ true)
-      × (oneSection (held .estimator .settings) ≡ true)
+      × (oneSectionNoHeadroom (held .estimator .settings) ≡ true)
   unfolding takes
   each-test = each-of-six _ _ _ _ _ _ taken
 
@@ -315,8 +319,8 @@ module _ (s : List ℕ) (w : Walk) (taken : takes s w ≡ true) where
   unfolding stepRefusal
   by-form-and-answer = first-of-passed _ _ accepted-step
 
-  pub taken-plain : Plain (held .estimator .settings) bytes
-  taken-plain =
+  pub taken-frame : BlockFrame (held .estimator .settings) bytes
+  taken-frame =
       let g = held .estimator .settings in
       let settings = each-test .5 in
       record {
@@ -332,7 +336,7 @@ module _ (s : List ℕ) (w : Walk) (taken : takes s w ≡ true) where
 
   update-accepted : updateRefusal (held .estimator) (updateIn (channelsOf (held .estimator)) next-record) ≡ accepted
   unfolding answerOf updateAnswer
-  update-accepted = sym (ap (λ (a : ErleAnswer). a .refused) (by-block (kindOf next-record) _ _ _ _ (taken-plain .kind))) ∙ by-form-and-answer .1
+  update-accepted = sym (ap (λ (a : ErleAnswer). a .refused) (by-block (kindOf next-record) _ _ _ _ (taken-frame .kind))) ∙ by-form-and-answer .1
 
   pub taken-state : stateOk (held .estimator) ≡ true
   taken-state = accepted-call (held .estimator) (updateIn (channelsOf (held .estimator)) next-record) update-accepted .state
@@ -344,7 +348,7 @@ module _ (s : List ℕ) (w : Walk) (taken : takes s w ≡ true) where
   taken-values =
       let n = channelsOf (held .estimator) in
       passed (valuesInRange (renderIn n next-record) (captureIn n next-record) (residualIn n next-record)) 5 0
-      (sym (update-judged n next-record (held .estimator) refl taken-state (taken-plain .flat)) ∙ update-accepted)
+      (sym (update-judged n next-record (held .estimator) refl taken-state (taken-frame .flat)) ∙ update-accepted)
 
 -- a channel's row after the block, of its subband record alone
 pub row-is :

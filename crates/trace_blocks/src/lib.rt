@@ -1,4 +1,5 @@
-// Many blocks of a trace at once.
+// Blocks of a trace in a row.
+use aec3_common::FFT_LENGTH_BY_2_PLUS_1;
 use aec3_common::counts::one_more;
 use aec3_common::judge::all_values_ok;
 use aec3_common::refusal::ACCEPTED;
@@ -18,6 +19,7 @@ use trace_records::Standing;
 use trace_records::block_in;
 use trace_records::form_refusal;
 use trace_records::frame_length;
+use trace_records::frames::LENGTH_SIZE;
 use trace_records::kind_of;
 use trace_records::records::BLOCK_KIND;
 use trace_text::put_row;
@@ -26,32 +28,33 @@ ghost use Prim.Native.Nat.{_≤_};
 ghost use lib.ListN.{length};
 ghost use Rattle.encoding.specs.Text.{written, after};
 ghost use Rattle.trace_text.specs.Text.{line};
-ghost use Rattle.trace_blocks.specs.Blocks.{plainLength, BlocksStepped, subbandRow};
+ghost use Rattle.trace_blocks.specs.Blocks.{blockFrameLength, blocksAnswer, blocksOver, subbandRow};
 
-// The state after some blocks, how many bytes they are with their L, and the place behind their lines.
+// The state after some blocks, how many bytes they are with their L, and the place where the next lines go.
 pub struct SteppedBlocks {
     pub state: Trace,
     pub used: usize,
     pub at: usize,
 }
 
-// The L of the block that the bytes begin with, or 0 where they begin with none whose form passes; for settings with one section and
-// no headroom, as a trace has them.
-fn plain_length(settings: ErleSettings, s: &[u8]) -> usize
-    ensures { λ r. ⌜ r ≡ plainLength settings (now (s .entry)) ⌝ }
+// The L of the block that the bytes begin with. It is 0 where they begin with none that is whole and has its form, and where there are
+// sections or headroom.
+fn block_frame_length(settings: ErleSettings, s: &[u8]) -> usize
+    ensures { λ r. ⌜ r ≡ blockFrameLength settings (now (s .entry)) ⌝ }
 {
     let length = frame_length(s);
     if length == 0 {
         return 0;
     }
-    let end = 4 + length;
-    let record = &s[4..end];
+    let end = LENGTH_SIZE + length;
+    let record = &s[LENGTH_SIZE..end];
     let standing = Standing {
         num_capture_channels: settings.num_capture_channels,
     };
-    let one_section = (settings.num_sections == 1) & (settings.delay_headroom_samples == 0);
+    let one_section_no_headroom = (settings.num_sections == 1)
+        & (settings.delay_headroom_samples == 0);
     let form = form_refusal(standing, record);
-    if one_section & (kind_of(record) == BLOCK_KIND) & (form == ACCEPTED) {
+    if one_section_no_headroom & (kind_of(record) == BLOCK_KIND) & (form == ACCEPTED) {
         length
     } else {
         0
@@ -86,11 +89,12 @@ fn put_subband_row(
     )
 }
 
-// Steps through blocks at the front of some bytes, as `step` does one by one, for as long as they are accepted and past the startup
-// phase and find room for their lines. The estimator is changed in place here: handing it to a function copies all of it, which
-// takes longer than the block itself.
+// Steps through the blocks that some bytes begin with, as `step` does one by one, for as long as each is accepted and finds room for its
+// lines, the startup phase ends with it or before it, and there is one section and no headroom. The estimator stands in one variable and
+// is changed in place: handing it to a function for every block would copy all of it for every block.
 pub fn step_blocks(t: Trace, input: &[u8], out: &mut [u8], at: usize) -> SteppedBlocks
-    ensures { λ r. ⌜ BlocksStepped t (now (input .entry)) (now (out .entry)) at (now (out .exit)) r ⌝ }
+    ensures { λ r. ⌜ r ≡ blocksAnswer t (now (input .entry)) (now (out .entry)) at ⌝ }
+    ensures { λ _. ⌜ now (out .exit) ≡ blocksOver t (now (input .entry)) (now (out .entry)) at ⌝ }
     ensures { λ r. ⌜ r .used ≤ length (now (input .entry)) ⌝ }
 {
     let band = t.band;
@@ -104,33 +108,21 @@ pub fn step_blocks(t: Trace, input: &[u8], out: &mut [u8], at: usize) -> Stepped
         let settings = estimator.settings;
         let counted = one_more(estimator.blocks_since_reset);
         let started = estimator.startup_phase_length_blocks <= counted;
-        let length = plain_length(settings, &input[used..]);
+        let length = block_frame_length(settings, &input[used..]);
         if !(state_ok & started & (length > 0) & has_room(out.len(), at)) {
-            let state = Trace {
-                estimator,
-                band,
-                blocks,
-                records,
-            };
-            return SteppedBlocks { state, used, at };
+            break;
         }
         let n = settings.num_capture_channels;
-        let start = used + 4;
+        let start = used + LENGTH_SIZE;
         let end = start + length;
         let block = block_in(&input[start..end], n);
         let flags = block.converged_filters;
         let x2 = block.x2;
         let y2 = block.y2;
         let e2 = block.e2;
-        let count = n * 65;
+        let count = n * FFT_LENGTH_BY_2_PLUS_1;
         if !all_values_ok(&x2, &y2[..count], &e2[..count]) {
-            let state = Trace {
-                estimator,
-                band,
-                blocks,
-                records,
-            };
-            return SteppedBlocks { state, used, at };
+            break;
         }
         let subband_part = subband_settings(settings);
         let fullband_part = fullband_settings(settings);
@@ -155,4 +147,11 @@ pub fn step_blocks(t: Trace, input: &[u8], out: &mut [u8], at: usize) -> Stepped
         }
         used = end;
     }
+    let state = Trace {
+        estimator,
+        band,
+        blocks,
+        records,
+    };
+    SteppedBlocks { state, used, at }
 }

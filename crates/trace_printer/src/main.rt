@@ -18,6 +18,11 @@ fn input_buffer() -> [u8; 131072]
     [0; 131072]
 }
 
+// Room for the lines of some hundred records, so that large pieces are written.
+fn output_buffer() -> [u8; 8192] {
+    [0; 8192]
+}
+
 // Moves the bytes from one place to another to the front.
 fn move_to_front(input: &mut [u8], from: usize, to: usize)
     requires { ⌜ (from ≤ to) × (to ≤ length (now input)) ⌝ }
@@ -151,6 +156,6 @@ fn run(input: &mut [u8], out: &mut [u8]) {
 
 fn main() {
     let mut input = input_buffer();
-    let mut out = io::large_buffer();
+    let mut out = output_buffer();
     run(&mut input, &mut out);
 }

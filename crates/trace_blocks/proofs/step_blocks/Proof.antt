@@ -36,8 +36,8 @@ use Rattle.trace_records.proofs.Judged.{BlockOk}
 use Rattle.trace_text.specs.Text.{lines}
 use Rattle.trace.specs.declared.Trace.{Trace}
 use Rattle.trace.specs.Apply.{channelsOf, standingOf, updateIn, rowAt}
-use Rattle.trace_blocks.specs.Blocks.{Walk, takes, BlocksStepped, plainLength, subbandRow}
-use Rattle.trace_blocks.proofs.InPlace.{Steps, steps-none, walk-ended, each-of-these, Plain, some-plain, plain-long, lent-ahead, plain-ends, record-ahead, block-form, block-stepped, walk-on, taken-room, taken-plain, taken-started, taken-state, taken-values, row-is}
+use Rattle.trace_blocks.specs.Blocks.{Walk, takes, walked, blocksAnswer, blocksOver, blockFrameLength, subbandRow}
+use Rattle.trace_blocks.proofs.InPlace.{OnItsWay, walk-begun, walk-ended, each-of-these, BlockFrame, some-frame, frame-long, lent-ahead, frame-ends, record-ahead, block-form, block-stepped, walk-on, taken-room, taken-frame, taken-started, taken-state, taken-values, row-is}
 use Rattle.trace.proofs.Lines.{Listing, listing-none, listing-more}
 use Rattle.trace_blocks.proofs.Moving.{Moving, subbandAt, fullbandAt, moving-none, moving-more, moving-all, moving-ok, moving-told, subband-moved, fullband-moved}
 use Rattle.trace_blocks.proofs.step_blocks.Statement.{statement}
@@ -59,7 +59,7 @@ walk estimator band blocks records used out at =
 
 abbrev Inv-loop : tie.InvT-loop
 Inv-loop input out₀ at band estimator₀ blocks₀ records₀ state-ok₀ at₀ used₀ out estimator blocks records state-ok at' used =
-    Steps input (walk estimator₀ band blocks₀ records₀ 0 out₀ at₀) (walk estimator band blocks records used out at')
+    OnItsWay input (walk estimator₀ band blocks₀ records₀ 0 out₀ at₀) (walk estimator band blocks records used out at')
     × (used ≤ length input) × (length out ≡ length out₀) × ((state-ok ≡ true → stateOk estimator ≡ true) × (stateOk estimator ≡ true → state-ok ≡ true))
     × (length (estimator .subband) ≡ 4) × (length (estimator .fullband) ≡ 4)
 
@@ -68,7 +68,7 @@ abbrev μ-loop : tie.MeasureT-loop
     length input - used
 
 loop-holds : tie.Need-loop-holds Inv-loop2 μ-loop2 Inv-loop μ-loop
-loop-holds c = (steps-none _ _, omega arith, refl, (λ e. sym (c .ok .ensures) ∙ e, λ e. c .ok .ensures ∙ e), search (needs, length-mapped), search (needs, length-mapped))
+loop-holds c = (walk-begun _ _, omega arith, refl, (λ e. sym (c .ok .ensures) ∙ e, λ e. c .ok .ensures ∙ e), search (needs, length-mapped), search (needs, length-mapped))
 
 -- ---- a turn: the tests that it has passed
 
@@ -78,14 +78,14 @@ Turn = tie.Else1 Inv-loop2 μ-loop2 Inv-loop μ-loop
 abbrev before : Turn → Trace
 before c = record { estimator = c .before .before .before .before .before .before .loop .estimator; band = c .before .before .before .before .before .before .before .before .before .before .before .args .t .band; blocks = c .before .before .before .before .before .before .loop .blocks; records = c .before .before .before .before .before .before .loop .records }
 
-abbrev ahead : Turn → List ℕ
-ahead c = drop (c .before .before .before .before .before .before .loop .used) (c .before .before .before .before .before .before .before .before .before .before .before .args .input .now)
+abbrev rest : Turn → List ℕ
+rest c = drop (c .before .before .before .before .before .before .loop .used) (c .before .before .before .before .before .before .before .before .before .before .before .args .input .now)
 
 tests :
     (c : Turn)
     → (c .before .before .before .before .before .before .loop .state-ok ≡ true)
     × (leb (before c .estimator .«startup_phase_length_blocks») (c .before .before .before .before .one-more .result) ≡ true)
-    × (ltb 0 (c .before .before .plain-length .result) ≡ true)
+    × (ltb 0 (c .before .before .block-frame-length .result) ≡ true)
     × (c .before .has-room .result ≡ true)
 tests c = each-of-these _ _ _ _ (not-false _ (c .if1 .left))
 
@@ -95,42 +95,42 @@ passes c = c .before .before .before .before .before .before .loop .inv .3 .0 (t
 started : (c : Turn) → before c .estimator .«startup_phase_length_blocks» ≤ oneMore (before c .estimator .«blocks_since_reset»)
 started c = omega (arith, leb-true (before c .estimator .«startup_phase_length_blocks») (c .before .before .before .before .one-more .result) (tests c .1), c .before .before .before .before .one-more .ensures)
 
-length-is : (c : Turn) → c .before .before .plain-length .result ≡ plainLength (before c .estimator .settings) (ahead c)
-length-is c = c .before .before .plain-length .ensures ∙ ap (plainLength (before c .estimator .settings)) (lent-ahead (c .before .before .before .before .before .before .before .before .before .before .before .args .input .now) (c .before .before .before .before .before .before .loop .used))
+length-is : (c : Turn) → c .before .before .block-frame-length .result ≡ blockFrameLength (before c .estimator .settings) (rest c)
+length-is c = c .before .before .block-frame-length .ensures ∙ ap (blockFrameLength (before c .estimator .settings)) (lent-ahead (c .before .before .before .before .before .before .before .before .before .before .before .args .input .now) (c .before .before .before .before .before .before .loop .used))
 
-plain : (c : Turn) → Plain (before c .estimator .settings) (ahead c)
-plain c = some-plain _ _ (omega (arith, length-is c, ltb-true 0 (c .before .before .plain-length .result) (tests c .2)))
+frame : (c : Turn) → BlockFrame (before c .estimator .settings) (rest c)
+frame c = some-frame _ _ (omega (arith, length-is c, ltb-true 0 (c .before .before .block-frame-length .result) (tests c .2)))
 
-long : (c : Turn) → c .before .before .plain-length .result ≡ lengthIn (ahead c)
-long c = length-is c ∙ plain-long _ _ (plain c)
+long : (c : Turn) → c .before .before .block-frame-length .result ≡ lengthIn (rest c)
+long c = length-is c ∙ frame-long _ _ (frame c)
 
 room : (c : Turn) → leb (c .before .before .before .before .before .before .loop .at + 196) (length (c .before .before .before .before .before .before .loop .out)) ≡ true
 room c = sym (c .before .has-room .ensures) ∙ tests c .3
 
-form : (c : Turn) → BlockOk (standingOf (before c .estimator)) (recordIn (ahead c))
-form c = block-form (before c) (ahead c) (plain c)
+form : (c : Turn) → BlockOk (standingOf (before c .estimator)) (recordIn (rest c))
+form c = block-form (before c) (rest c) (frame c)
 
 few : (c : Turn) → channelsOf (before c .estimator) ≤ 4
 few c = form c .few
 
-ends : (c : Turn) → c .before .before .before .before .before .before .loop .used + 4 + c .before .before .plain-length .result ≤ length (c .before .before .before .before .before .before .before .before .before .before .before .args .input .now)
-ends c = omega (arith, long c, plain-ends (c .before .before .before .before .before .before .before .before .before .before .before .args .input .now) (c .before .before .before .before .before .before .loop .used) (c .before .before .before .before .before .before .loop .inv .1) (plain c))
+ends : (c : Turn) → c .before .before .before .before .before .before .loop .used + 4 + c .before .before .block-frame-length .result ≤ length (c .before .before .before .before .before .before .before .before .before .before .before .args .input .now)
+ends c = omega (arith, long c, frame-ends (c .before .before .before .before .before .before .before .before .before .before .before .args .input .now) (c .before .before .before .before .before .before .loop .used) (c .before .before .before .before .before .before .loop .inv .1) (frame c))
 
 -- ---- the block
 
-tables : (c : tie.After-block-in Inv-loop2 μ-loop2 Inv-loop μ-loop) → Tables (channelsOf (before (c .before .before) .estimator)) (recordIn (ahead (c .before .before))) (c .block-in .result)
+tables : (c : tie.After-block-in Inv-loop2 μ-loop2 Inv-loop μ-loop) → Tables (channelsOf (before (c .before .before) .estimator)) (recordIn (rest (c .before .before))) (c .block-in .result)
 tables c =
     let turn = c .before .before in
     block-tables _ _ _ (few turn) (form turn .long)
     (c .block-in .ensures ∙ ap (blockIn (channelsOf (before turn .estimator))) (record-ahead (c .before .before .before .before .before .before .before .before .before .before .before .before .before .args .input .now) (c .before .before .before .before .before .before .before .before .loop .used) (long turn)))
 
 render-long : (c : tie.After-block-in Inv-loop2 μ-loop2 Inv-loop μ-loop) → length (c .block-in .result .x2) ≡ 65
-render-long c = ap length (tables c .render) ∙ length-render (channelsOf (before (c .before .before) .estimator)) (recordIn (ahead (c .before .before)))
+render-long c = ap length (tables c .render) ∙ length-render (channelsOf (before (c .before .before) .estimator)) (recordIn (rest (c .before .before)))
 
 values :
     (c : tie.Else2 Inv-loop2 μ-loop2 Inv-loop μ-loop)
     → let n = channelsOf (before (c .before .before .before .before .before .before .before .before .before .before .before) .estimator) in
-    let r = recordIn (ahead (c .before .before .before .before .before .before .before .before .before .before .before)) in
+    let r = recordIn (rest (c .before .before .before .before .before .before .before .before .before .before .before)) in
     valuesInRange (renderIn n r) (captureIn n r) (residualIn n r) ≡ true
 values c =
     let t = tables (c .before .before .before .before .before .before .before .before .before) in
@@ -156,7 +156,7 @@ inside c = c .loop2-test .taken
 
 -- the update that the block is, and the state with the block counted, from which the records move
 abbrev update : Turn → Update
-update c = updateIn (channelsOf (before c .estimator)) (recordIn (ahead c))
+update c = updateIn (channelsOf (before c .estimator)) (recordIn (rest c))
 
 abbrev from : tie.At-loop2 Inv-loop2 μ-loop2 Inv-loop μ-loop → ErleEstimator
 from c =
@@ -199,7 +199,7 @@ lent-part :
     (c .before .loop2 .ch * 65 + 65 ≤ length (take (n * 65) (b .y2))) × (c .before .loop2 .ch * 65 + 65 ≤ length (take (n * 65) (b .e2)))
 lent-part c =
     let n = channelsOf (before (c .before .before .before .before .before .before .before .before .before .before .before .before .before .before .before .before .before .before .before .before .before) .estimator) in
-    let r = recordIn (ahead (c .before .before .before .before .before .before .before .before .before .before .before .before .before .before .before .before .before .before .before .before .before)) in
+    let r = recordIn (rest (c .before .before .before .before .before .before .before .before .before .before .before .before .before .before .before .before .before .before .before .before .before)) in
     let t = tables (c .before .before .before .before .before .before .before .before .before .before .before .before .before .before .before .before .before .before .before) in (
       omega (arith, inside c, ap length (t .capture), length-capture n r),
       omega (arith, inside c, ap length (t .residual), length-residual n r),
@@ -220,7 +220,7 @@ own-long : (c : tie.After-part2 Inv-loop2 μ-loop2 Inv-loop μ-loop) → (length
 unfolding updateIn
 own-long c =
     let n = channelsOf (before (c .before .before .before .before .before .before .before .before .before .before .before .before .before .before .before .before .before .before .before .before .before .before .before .before .before) .estimator) in
-    let r = recordIn (ahead (c .before .before .before .before .before .before .before .before .before .before .before .before .before .before .before .before .before .before .before .before .before .before .before .before .before)) in
+    let r = recordIn (rest (c .before .before .before .before .before .before .before .before .before .before .before .before .before .before .before .before .before .before .before .before .before .before .before .before .before)) in
     let h = inside (c .before .before .before .before) in (
       ap length (own c .0) ∙ part-length _ _ (omega (arith, h, length-capture n r)),
       ap length (own c .1) ∙ part-length _ _ (omega (arith, h, length-residual n r)),
@@ -230,7 +230,7 @@ subband-channel-requires : tie.Need-subband-channel-requires Inv-loop2 μ-loop2 
 subband-channel-requires c κs =
     let e = before (c .before .before .before .before .before .before .before .before .before .before .before .before .before .before .before .before .before .before .before .before .before .before .before .before .before .before .before) .estimator in
     let n = channelsOf e in
-    let r = recordIn (ahead (c .before .before .before .before .before .before .before .before .before .before .before .before .before .before .before .before .before .before .before .before .before .before .before .before .before .before .before)) in
+    let r = recordIn (rest (c .before .before .before .before .before .before .before .before .before .before .before .before .before .before .before .before .before .before .before .before .before .before .before .before .before .before .before)) in
     let ch : ℕ = c .before .before .before .before .before .before .before .loop2 .ch in (
       rw (stored-not-yet (c .before .before .before .before .before .before .before .loop2 .inv .0 .subband)) (points-few (subbandPart e) ch (subband-passed e (passes (c .before .before .before .before .before .before .before .before .before .before .before .before .before .before .before .before .before .before .before .before .before .before .before .before .before .before .before))) (c .before .before .before .before .before .before .before .before .before .before .before .before .before .before .before .before .before .before .before .before .before .before .before .before .before .before .before .before .before .before .before .before .before .loop .inv .4) (inside (c .before .before .before .before .before .before))),
       (render-long (c .before .before .before .before .before .before .before .before .before .before .before .before .before .before .before .before .before .before .before .before .before .before .before .before .before), own-long (c .before .before) .0, own-long (c .before .before) .1),
@@ -249,7 +249,7 @@ unfolding updateIn
 fullband-channel-requires c κs =
     let e = before (c .before .before .before .before .before .before .before .before .before .before .before .before .before .before .before .before .before .before .before .before .before .before .before .before .before .before .before .before .before) .estimator in
     let n = channelsOf e in
-    let r = recordIn (ahead (c .before .before .before .before .before .before .before .before .before .before .before .before .before .before .before .before .before .before .before .before .before .before .before .before .before .before .before .before .before)) in
+    let r = recordIn (rest (c .before .before .before .before .before .before .before .before .before .before .before .before .before .before .before .before .before .before .before .before .before .before .before .before .before .before .before .before .before)) in
     let ch : ℕ = c .before .before .before .before .before .before .before .before .before .loop2 .ch in
     let ok = each-of-three (valuesOk (renderIn n r)) (valuesOk (captureIn n r)) (valuesOk (residualIn n r)) (values (c .before .before .before .before .before .before .before .before .before .before .before .before .before .before .before .before .before .before)) in (
       rw (stored-not-yet (c .before .before .before .before .before .before .before .before .before .loop2 .inv .0 .fullband)) (channel-passed (fullbandPart e) (fullband-passed e (passes (c .before .before .before .before .before .before .before .before .before .before .before .before .before .before .before .before .before .before .before .before .before .before .before .before .before .before .before .before .before))) ch (c .before .before .before .before .before .before .before .before .before .before .before .before .before .before .before .before .before .before .before .before .before .before .before .before .before .before .before .before .before .before .before .before .before .before .before .loop .inv .5) (inside (c .before .before .before .before .before .before .before .before))),
@@ -263,7 +263,7 @@ unfolding updateIn
 fullband-is c =
     let t = tables (c .before .before .before .before .before .before .before .before .before .before .before .before .before .before .before .before .before .before .before .before .before .before .before .before .before .before .before .before) in
     let n = channelsOf (before (c .before .before .before .before .before .before .before .before .before .before .before .before .before .before .before .before .before .before .before .before .before .before .before .before .before .before .before .before .before .before) .estimator) in
-    let r = recordIn (ahead (c .before .before .before .before .before .before .before .before .before .before .before .before .before .before .before .before .before .before .before .before .before .before .before .before .before .before .before .before .before .before)) in
+    let r = recordIn (rest (c .before .before .before .before .before .before .before .before .before .before .before .before .before .before .before .before .before .before .before .before .before .before .before .before .before .before .before .before .before .before)) in
     c .fullband-channel .ensures
     ∙ fullband-moved (from (c .before .before .before .before .before .before .before .before .before .before)) (update (c .before .before .before .before .before .before .before .before .before .before .before .before .before .before .before .before .before .before .before .before .before .before .before .before .before .before .before .before .before .before)) (c .before .before .before .before .before .before .before .before .before .before .loop2 .ch)
     (c .before .before .before .before .before .before .before .before .before .before .before .before .before .before .before .before .min-erle-log2 .ensures ∙ ap minLog2 (c .before .before .before .before .before .before .before .before .before .before .before .before .before .before .before .before .before .fullband-settings .ensures))
@@ -280,7 +280,7 @@ loop2-again c =
     let band : ℕ = before turn .band in
     let blocks : ℕ = c .before .before .before .before .before .before .before .before .before .before .before .before .before .before .before .before .before .before .one-more2 .result in
     let subband = subband-is (c .before .before .before .before .before .before .before .before) in
-    let row = ap (λ (r : SubbandChannel). subbandRow (s .settings .«onset_detection») r band blocks ch) subband ∙ row-is s u (plain turn .section) (few turn) ch (inside (c .before .before .before .before .before .before .before .before .before .before .before .before .before .before .before)) band blocks in (
+    let row = ap (λ (r : SubbandChannel). subbandRow (s .settings .«onset_detection») r band blocks ch) subband ∙ row-is s u (frame turn .section) (few turn) ch (inside (c .before .before .before .before .before .before .before .before .before .before .before .before .before .before .before)) band blocks in (
       moving-more s u (c .before .before .before .before .before .before .before .before .before .before .before .before .before .before .before .before .loop2 .inv .0) (inside (c .before .before .before .before .before .before .before .before .before .before .before .before .before .before .before)) (few turn) subband (fullband-is (c .before .before .before .before .before .before)) (c .before .before .before .before .before .ok2 .ensures) (c .before .before .before .before .ok3 .ensures),
       listing-more (c .before .before .before .before .before .before .before .before .before .before .before .before .before .before .before .before .loop2 .inv .1) (inside (c .before .before .before .before .before .before .before .before .before .before .before .before .before .before .before)) (rw row at (c .before .before .put-subband-row .ensures)),
     )
@@ -291,7 +291,7 @@ last : (c : tie.After-loop2 Inv-loop2 μ-loop2 Inv-loop μ-loop) → c .before .
 last c = omega (arith, c .before .loop2 .inv .1 .to, c .loop2-test .left)
 
 moved : (c : tie.After-loop2 Inv-loop2 μ-loop2 Inv-loop μ-loop) → c .before .loop2 .estimator ≡ updated (from (c .before)) (update (c .before .before .before .before .before .before .before .before .before .before .before .before .before .before .before .before .before .before .before .before .before))
-moved c = moving-all (from (c .before)) (update (c .before .before .before .before .before .before .before .before .before .before .before .before .before .before .before .before .before .before .before .before .before)) (few (c .before .before .before .before .before .before .before .before .before .before .before .before .before .before .before .before .before .before .before .before .before)) (c .before .loop2 .inv .0) (omega (arith, last c)) (plain (c .before .before .before .before .before .before .before .before .before .before .before .before .before .before .before .before .before .before .before .before .before) .section)
+moved c = moving-all (from (c .before)) (update (c .before .before .before .before .before .before .before .before .before .before .before .before .before .before .before .before .before .before .before .before .before)) (few (c .before .before .before .before .before .before .before .before .before .before .before .before .before .before .before .before .before .before .before .before .before)) (c .before .loop2 .inv .0) (omega (arith, last c)) (frame (c .before .before .before .before .before .before .before .before .before .before .before .before .before .before .before .before .before .before .before .before .before) .section)
 
 still-passes :
     (c : tie.After-loop2 Inv-loop2 μ-loop2 Inv-loop μ-loop)
@@ -302,7 +302,7 @@ still-passes c =
     let s = from (c .before) in
     let u = update (c .before .before .before .before .before .before .before .before .before .before .before .before .before .before .before .before .before .before .before .before .before) in
     let m = c .before .loop2 .inv .0 in
-    let section = plain (c .before .before .before .before .before .before .before .before .before .before .before .before .before .before .before .before .before .before .before .before .before) .section in (
+    let section = frame (c .before .before .before .before .before .before .before .before .before .before .before .before .before .before .before .before .before .before .before .before .before) .section in (
       λ all. ap stateOk (moved c) ∙ moving-ok s u (few (c .before .before .before .before .before .before .before .before .before .before .before .before .before .before .before .before .before .before .before .before .before)) m (omega (arith, last c)) section (passes (c .before .before .before .before .before .before .before .before .before .before .before .before .before .before .before .before .before .before .before .before .before)) all,
       λ ok. moving-told s u (few (c .before .before .before .before .before .before .before .before .before .before .before .before .before .before .before .before .before .before .before .before .before)) m (omega (arith, last c)) section (sym (ap stateOk (moved c)) ∙ ok),
     )
@@ -316,10 +316,10 @@ loop-again c =
     let text = at .inv .1 .text in
     let all : lines (tab (at .ch) (rowAt (updated (from (c .before)) (update turn)) (before turn .band) (c .before .before .before .one-more2 .result))) ≡ lines (tab (channelsOf (before turn .estimator)) (rowAt (at .estimator) (before turn .band) (c .before .before .before .one-more2 .result))) =
     λ i. lines (tab (last c i) (rowAt (sym after i) (before turn .band) (c .before .before .before .one-more2 .result))) in
-    let stepped = block-stepped (before turn) (ahead turn) (plain turn) (passes turn) (values (c .before .before .before .before .before .before .before .before .before .before)) (started turn) (c .before .before .before .before .before .before .before .before .before .before .before .before .before .before .before .before .before .before .before .before .before .before .before .before .before .before .before .loop .out) (c .before .before .before .before .before .before .before .before .before .before .before .before .before .before .before .before .before .before .before .before .before .before .before .before .before .before .before .loop .at) (room turn)
+    let stepped = block-stepped (before turn) (rest turn) (frame turn) (passes turn) (values (c .before .before .before .before .before .before .before .before .before .before)) (started turn) (c .before .before .before .before .before .before .before .before .before .before .before .before .before .before .before .before .before .before .before .before .before .before .before .before .before .before .before .loop .out) (c .before .before .before .before .before .before .before .before .before .before .before .before .before .before .before .before .before .before .before .before .before .before .before .before .before .before .before .loop .at) (room turn)
     (after ∙ ap (λ e. updated e (update turn)) is) (c .before .before .before .one-more2 .ensures) (c .before .before .one-more3 .ensures)
     (text .text ∙ ap (laid (c .before .before .before .before .before .before .before .before .before .before .before .before .before .before .before .before .before .before .before .before .before .before .before .before .before .before .before .loop .out) (c .before .before .before .before .before .before .before .before .before .before .before .before .before .before .before .before .before .before .before .before .before .before .before .before .before .before .before .loop .at)) all, text .place ∙ ap (λ l. c .before .before .before .before .before .before .before .before .before .before .before .before .before .before .before .before .before .before .before .before .before .before .before .before .before .before .before .loop .at + length l) all) in (
-      walk-on (c .before .before .before .before .before .before .before .before .before .before .before .before .before .before .before .before .before .before .before .before .before .before .before .before .before .before .before .loop .inv .0) (plain turn) (long turn) (started turn) stepped,
+      walk-on (c .before .before .before .before .before .before .before .before .before .before .before .before .before .before .before .before .before .before .before .before .before .before .before .before .before .before .before .loop .inv .0) (frame turn) (long turn) (started turn) stepped,
       ends turn,
       wrote-long text ∙ c .before .before .before .before .before .before .before .before .before .before .before .before .before .before .before .before .before .before .before .before .before .before .before .before .before .before .before .loop .inv .2,
       still-passes c,
@@ -336,35 +336,45 @@ here c = walk (c .loop .estimator) (c .before .before .before .before .before .a
 -- a record that is taken passes the tests
 all-pass :
     (c : tie.After-has-room Inv-loop2 μ-loop2 Inv-loop μ-loop) → takes (c .before .before .before .before .before .before .before .before .before .before .args .input .now) (here (c .before .before .before .before .before)) ≡ true
-    → (((c .before .before .before .before .before .loop .state-ok && leb (c .before .before .before .before .before .loop .estimator .«startup_phase_length_blocks») (c .before .before .before .one-more .result)) && ltb 0 (c .before .plain-length .result)) && c .has-room .result) ≡ true
+    → (((c .before .before .before .before .before .loop .state-ok && leb (c .before .before .before .before .before .loop .estimator .«startup_phase_length_blocks») (c .before .before .before .one-more .result)) && ltb 0 (c .before .block-frame-length .result)) && c .has-room .result) ≡ true
 all-pass c taken =
     let input = c .before .before .before .before .before .before .before .before .before .before .args .input .now in
     let w = here (c .before .before .before .before .before) in
-    let plain = taken-plain input w taken in
-    let long = c .before .plain-length .ensures ∙ ap (plainLength (w .state .estimator .settings)) (lent-ahead input (w .used)) ∙ plain-long _ _ plain in
+    let frame = taken-frame input w taken in
+    let long = c .before .block-frame-length .ensures ∙ ap (blockFrameLength (w .state .estimator .settings)) (lent-ahead input (w .used)) ∙ frame-long _ _ frame in
     simp (
       c .before .before .before .before .before .loop .inv .3 .1 (taken-state input w taken),
       ap (leb (w .state .estimator .«startup_phase_length_blocks»)) (c .before .before .before .one-more .ensures) ∙ taken-started input w taken,
-      lt-ltb 0 (c .before .plain-length .result) (omega (arith, long, framed-least (drop (w .used) input) (plain .whole))),
+      lt-ltb 0 (c .before .block-frame-length .result) (omega (arith, long, framed-least (drop (w .used) input) (frame .whole))),
       c .has-room .ensures ∙ taken-room input w taken,
     )
 
+at-the-tests : (c : tie.Then1 Inv-loop2 μ-loop2 Inv-loop μ-loop) → here (c .before .before .before .before .before .before) ≡ walked (c .before .before .before .before .before .before .before .before .before .before .before .args .t) (c .before .before .before .before .before .before .before .before .before .before .before .args .input .now) (c .before .before .before .before .before .before .before .before .before .before .before .args .out .now) (c .before .before .before .before .before .before .before .before .before .before .before .args .at)
+unfolding walked
+at-the-tests c = walk-ended (c .before .before .before .before .before .before .loop .inv .0) (λ taken. true≢false (sym (all-pass (c .before) taken) ∙ not-true _ (c .if1 .taken)))
+
 returns : tie.Need-returns Inv-loop2 μ-loop2 Inv-loop μ-loop
-unfolding BlocksStepped
+unfolding blocksAnswer blocksOver
 returns c =
-    (walk-ended (c .before .before .before .before .before .before .loop .inv .0) (λ taken. true≢false (sym (all-pass (c .before) taken) ∙ not-true _ (c .if1 .taken))), c .before .before .before .before .before .before .loop .inv .1)
+    let e = at-the-tests c in
+    (λ i. record { state = e i .state; used = e i .used; at = e i .at }, (ap (λ (w : Walk). w .out) e, c .before .before .before .before .before .before .loop .inv .1))
+
+at-the-values : (c : tie.Then2 Inv-loop2 μ-loop2 Inv-loop μ-loop) → here (c .before .before .before .before .before .before .before .before .before .before .before .before .before .before .before .before .before) ≡ walked (c .before .before .before .before .before .before .before .before .before .before .before .before .before .before .before .before .before .before .before .before .before .before .args .t) (c .before .before .before .before .before .before .before .before .before .before .before .before .before .before .before .before .before .before .before .before .before .before .args .input .now) (c .before .before .before .before .before .before .before .before .before .before .before .before .before .before .before .before .before .before .before .before .before .before .args .out .now) (c .before .before .before .before .before .before .before .before .before .before .before .before .before .before .before .before .before .before .before .before .before .before .args .at)
+unfolding walked
+at-the-values c =
+    let t = tables (c .before .before .before .before .before .before .before .before .before) in
+    walk-ended (c .before .before .before .before .before .before .before .before .before .before .before .before .before .before .before .before .before .loop .inv .0)
+    (λ taken.
+    let n = channelsOf (c .before .before .before .before .before .before .before .before .before .before .before .before .before .before .before .before .before .loop .estimator) in
+    let b = c .before .before .before .before .before .before .before .before .before .block-in .result in
+    let good : valuesInRange (b .x2) (take (n * 65) (b .y2)) (take (n * 65) (b .e2)) ≡ true = rw (t .render, t .capture, t .residual) (taken-values (c .before .before .before .before .before .before .before .before .before .before .before .before .before .before .before .before .before .before .before .before .before .before .args .input .now) (here (c .before .before .before .before .before .before .before .before .before .before .before .before .before .before .before .before .before)) taken) in
+    true≢false (sym (c .before .all-values-ok .ensures ∙ good) ∙ not-true _ (c .if2 .taken)))
 
 returns-2 : tie.Need-returns-2 Inv-loop2 μ-loop2 Inv-loop μ-loop
-unfolding BlocksStepped
+unfolding blocksAnswer blocksOver
 returns-2 c =
-    let t = tables (c .before .before .before .before .before .before .before .before .before) in
-    let no-values = c .before .all-values-ok .ensures in (
-      walk-ended (c .before .before .before .before .before .before .before .before .before .before .before .before .before .before .before .before .before .loop .inv .0)
-          (λ taken.
-          true≢false
-          (sym (no-values ∙ (rw (t .render, t .capture, t .residual) (taken-values (c .before .before .before .before .before .before .before .before .before .before .before .before .before .before .before .before .before .before .before .before .before .before .args .input .now) (here (c .before .before .before .before .before .before .before .before .before .before .before .before .before .before .before .before .before)) taken))) ∙ not-true _ (c .if2 .taken))),
-      c .before .before .before .before .before .before .before .before .before .before .before .before .before .before .before .before .before .loop .inv .1,
-    )
+    let e = at-the-values c in
+    (λ i. record { state = e i .state; used = e i .used; at = e i .at }, (ap (λ (w : Walk). w .out) e, c .before .before .before .before .before .before .before .before .before .before .before .before .before .before .before .before .before .loop .inv .1))
 
 pub step-blocks-spec : {M : Type 1} → statement M
 step-blocks-spec =
@@ -382,8 +392,6 @@ step-blocks-spec =
     (λ c. search needs)
     (λ c κs. search needs)
     (λ c κs. search needs)
-    (λ c. c .before .before .before .before .before .before .loop .inv .2)
-    returns
     (λ c. omega (arith, ends c, c .before .before .before .before .before .before .before .before .before .before .before .good .1 .0 .0))
     (λ c. omega (arith, ends c, c .before .before .before .before .before .before .before .before .before .before .before .good .1 .0 .0))
     (λ c. search needs)
@@ -397,8 +405,6 @@ step-blocks-spec =
     (λ c. omega (arith, few (c .before .before .before .before .before .before .before .before), tables (c .before .before .before .before .before .before) .roomResidual))
     (λ c. sym (length-take-le _ _ (omega (arith, few (c .before .before .before .before .before .before .before .before .before), tables (c .before .before .before .before .before .before .before) .roomResidual))))
     (λ c κs. search needs)
-    (λ c. c .before .before .before .before .before .before .before .before .before .before .before .before .before .before .before .before .before .loop .inv .2)
-    returns-2
     (λ c κs. search needs)
     (λ c κs. search needs)
     min-erle-log2-requires
@@ -435,4 +441,8 @@ step-blocks-spec =
     (λ c. omega (arith, c .before .before .before .before .before .before .before .before .before .before .before .before .before .before .before .loop2-test .taken))
     loop2-again
     (λ c. omega (arith, ends (c .before .before .before .before .before .before .before .before .before .before .before .before .before .before .before .before .before .before .before .before .before)))
-    loop-again)
+    loop-again
+    (λ c. c .before .before .before .before .before .before .loop .inv .2)
+    returns
+    (λ c. c .before .before .before .before .before .before .before .before .before .before .before .before .before .before .before .before .before .loop .inv .2)
+    returns-2)
