@@ -1,13 +1,19 @@
 // Reads a trace from standard input and writes its listing to standard output.
+use aec3_common::refusal::ACCEPTED;
 use libc::STDIN_FILENO;
 use libc::STDOUT_FILENO;
+use trace::Trace;
+use trace::beginning;
 use trace::put_bad_frame;
+use trace::step;
 use trace::steps::has_room;
+use trace_blocks::step_blocks;
 use trace_records::frame_length;
 use trace_records::frames::LENGTH_SIZE;
 use trace_records::length_of;
+use trace_text::put_header;
 ghost use mathlib.Core.Path.{_≡_};
-ghost use Prim.Native.Nat.{_-_, _≤_};
+ghost use Prim.Native.Nat.{_+_, _-_, _≤_};
 ghost use lib.ListN.{length, take, drop};
 ghost use Rattle.trace_printer.specs.Held.{Within};
 
@@ -120,37 +126,68 @@ fn finish(out: &mut [u8], at: usize, cut_short: bool, records: u32) {
     }
 }
 
+// What was taken from the front of the bytes that are held: the state after it, how many bytes it was, the place where the next lines go,
+// and whether the run goes on.
+struct Turn {
+    state: Trace,
+    used: usize,
+    at: usize,
+    goes_on: bool,
+}
+
+// Blocks in a row, or else the record that the bytes begin with, whose L is handed in.
+fn take_turn(t: Trace, held: &[u8], record_length: usize, out: &mut [u8], at: usize) -> Turn
+    requires { ⌜ 4 + «record_length» ≤ length (now held) ⌝ }
+    ensures { λ r. ⌜ r .used ≤ length (now (held .entry)) ⌝ }
+{
+    let blocks = step_blocks(t, held, out, at);
+    if blocks.used > 0 {
+        let state = blocks.state;
+        return Turn {
+            state,
+            used: blocks.used,
+            at: blocks.at,
+            goes_on: true,
+        };
+    }
+    let end = LENGTH_SIZE + record_length;
+    let stepped = step(t, &held[LENGTH_SIZE..end], out, at);
+    let state = stepped.state;
+    Turn {
+        state,
+        used: end,
+        at: stepped.at,
+        goes_on: (stepped.refused == ACCEPTED) & stepped.fits,
+    }
+}
+
 // Lists the records of standard input; the text in `out` before `at` is not written yet. The turns are counted down from a number that no
 // run uses up, since nothing says that an input ends.
 fn run(input: &mut [u8], out: &mut [u8]) {
-    let mut t = trace::beginning();
-    let mut at = trace_text::put_header(out, 0);
+    let mut t = beginning();
+    let mut at = put_header(out, 0);
     let mut from = 0;
     let mut to = 0;
     let mut turns = u64::MAX;
     while turns > 0 {
         turns -= 1;
-        let blocks = trace_blocks::step_blocks(t, &input[from..to], out, at);
-        t = blocks.state;
-        from += blocks.used;
-        let flushed = flush(out, blocks.at);
-        if !flushed.ok {
-            return;
-        }
-        at = flushed.at;
         let held = next_record(input, from, to);
         if held.length == 0 {
             return finish(out, at, held.from < held.to, t.records);
         }
-        let start = held.from + LENGTH_SIZE;
-        from = start + held.length;
+        from = held.from;
         to = held.to;
-        let stepped = trace::step(t, &input[start..from], out, at);
-        at = stepped.at;
-        if (stepped.refused != 0) | !stepped.fits {
-            return finish(out, at, false, 0);
+        let turn = take_turn(t, &input[from..to], held.length, out, at);
+        if !turn.goes_on {
+            return finish(out, turn.at, false, 0);
         }
-        t = stepped.state;
+        t = turn.state;
+        from += turn.used;
+        let flushed = flush(out, turn.at);
+        if !flushed.ok {
+            return;
+        }
+        at = flushed.at;
     }
 }
 
