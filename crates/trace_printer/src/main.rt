@@ -24,7 +24,7 @@ fn input_buffer() -> [u8; 131072]
     [0; 131072]
 }
 
-// Room for the lines of some hundred records, so that large pieces are written.
+// Room for the lines of fifty blocks or more, so that large pieces are written.
 fn output_buffer() -> [u8; 8192] {
     [0; 8192]
 }
