@@ -1,7 +1,7 @@
 -- What the judging of settings and of an update tells, and what a run keeps.
-use mathlib.Core.Path.{_≡_}
+use mathlib.Core.Path.{_≡_, refl}
 use mathlib.Core.Bool.{Bool, true, false}
-use mathlib.Core.List.{List, [], _∷_}
+use mathlib.Core.List.{List, [], _∷_, _++_}
 use Prim.Native.Nat.{ℕ, _*_, _≤_}
 use native.Mathlib.Omega.{arith}
 use borrow.Author.Tests.{eqb-true}
@@ -101,3 +101,11 @@ pub run-keeps :
 unfolding runBy
 run-keeps P step keeps [] s p = p
 run-keeps P step keeps (c ∷ cs) s p = run-keeps P step keeps cs (step s c) (keeps s c p)
+
+-- a list of calls after another takes up the state that the other left
+pub run-append :
+    {S C : Type 0} (step : S → C → S) (earlier later : List C) (s : S)
+    → runBy step s (earlier ++ later) ≡ runBy step (runBy step s earlier) later
+unfolding runBy
+run-append step [] later s = refl
+run-append step (c ∷ cs) later s = run-append step cs later (step s c)

@@ -1,14 +1,14 @@
--- The range that a band's streams keep, and the size that its sums keep.
+-- The size that a band's sums keep, and the range that its streams keep.
 use mathlib.Core.Path.{_≡_, refl, sym, subst}
 use mathlib.Core.Bool.{Bool, true, false, cond, false≢true}
 use Prim.Native.Nat.{ℕ, zero, suc, _+_, _*_, _^_, _≤_, _<_}
 use native.Mathlib.Nat.{suc-mul}
 use native.Mathlib.Omega.{arith}
 use borrow.Author.Tests.{leb-true, le-leb}
-use lib.Dec.{T, lit≤}
+use lib.Dec.{T, lit<, lit≤, leb·zero}
 use lib.IntN.{ℤ, pos, negsuc, -ℤ-one}
 use lib.Signed.{leZ}
-use lib.Ieee.{Float, nan, inf, fin, binary32, ofBits, mul, lt, le, fits}
+use lib.Ieee.{Float, nan, inf, fin, binary32, ofBits, add, mul, lt, le, fits}
 use lib.Ieee.Fits.{add-fits, mul-fits}
 use lib.Ieee.Positive.{positive, above, above-of-le, between, le-trans-positive}
 use Rattle.aec3_common.specs.Binary32.{zero32, one32, larger, moved}
@@ -18,7 +18,7 @@ use Rattle.aec3_common.proofs.Choices.{cond-has}
 use Rattle.aec3_common.proofs.Fitting.{Between, level, clamped-between, times-at-most}
 use Rattle.aec3_common.proofs.Numbers.{number, UpTo, Value, Whole, no-sum, add-up-to, whole-multiple, ratio-plus, moved-number}
 use Rattle.aec3_common.proofs.Rounding.{Signed}
-use Rattle.erle_bands.specs.Band.{shareUp, shareDown, decayFactor, share, streamMoved, Core, emptied, added, hasRatio, ratio, learnt, Onset, onsetLearnt, decayed, oneBlockLess}
+use Rattle.erle_bands.specs.Band.{shareUp, shareDown, decayFactor, share, streamMoved, Sums, sumWith, added, hasRatio, ratio, Streams, learnt, Onset, waitsLearnt, holdLearnt, onsetLearnt, holdLess, decayed, compensatedBeside, oneBlockLess}
 
 -- ---- a minimum and a maximum
 
@@ -97,48 +97,48 @@ module _ {min max : Float} (limits : InOrder min max) where
     unfolding ofBits
     decay-at-most = times-at-most decayFactor x tt (lit≤ tt) between-positive (b .held)
 
--- ---- what only converged blocks move
+-- ---- sums
 
--- After n points each sum is at most n times 2^100, and the two streams are in their ranges.
-pub record CoreKept (n : ℕ) (min max : Float) (c : Core) : Type 0 where
-  pub capture : UpTo (n * 2 ^ 100) (c .capture)
-  pub residual : UpTo (n * 2 ^ 100) (c .residual)
-  pub plain : Between min max (c .plain)
-  pub uncapped : Between min greatestErle (c .uncapped)
+-- after n points each sum is at most n times 2^100
+pub record SumsUpTo (n : ℕ) (s : Sums) : Type 0 where
+  pub capture : UpTo (n * 2 ^ 100) (s .capture)
+  pub residual : UpTo (n * 2 ^ 100) (s .residual)
 
-pub emptied-kept : {n : ℕ} {min max : Float} {c : Core} → CoreKept n min max c → CoreKept 0 min max (emptied c)
-unfolding emptied
-emptied-kept kept = record { capture = no-sum; residual = no-sum; plain = kept .plain; uncapped = kept .uncapped }
-
-pub added-kept :
-    {n : ℕ} {min max : Float} {c : Core} (render : Float) {capture residual : Float}
-    → n < 6 → Value (2 ^ 100) capture → Value (2 ^ 100) residual
-    → CoreKept n min max c → CoreKept (suc n) min max (added render capture residual c)
-unfolding added
-added-kept {n} render few capture residual kept =
+-- a sum of n values with one value more
+one-more :
+    (n : ℕ) {x y : Float} → n < 6 → UpTo (n * 2 ^ 100) x → Value (2 ^ 100) y → UpTo (suc n * 2 ^ 100) (add binary32 x y)
+one-more n few sum value =
     let whole : Whole (n * 2 ^ 100 + 2 ^ 100) = rw suc-mul at (whole-multiple (suc n) (omega arith)) in
-    record {
-      capture = rw suc-mul (add-up-to (n * 2 ^ 100) (2 ^ 100) (kept .capture) capture whole);
-      residual = rw suc-mul (add-up-to (n * 2 ^ 100) (2 ^ 100) (kept .residual) residual whole);
-      plain = kept .plain;
-      uncapped = kept .uncapped;
-    }
+    rw suc-mul (add-up-to (n * 2 ^ 100) (2 ^ 100) sum value whole)
 
--- a band's ratio has a plus sign
-pub ratio-signed : {n : ℕ} {min max : Float} {c : Core} → hasRatio c ≡ true → CoreKept n min max c → Signed false (ratio c)
-ratio-signed {c = c} some kept = ratio-plus (kept .capture) (c .residual) some
+pub added-up-to :
+    {n : ℕ} {s : Sums} (anew : Bool) (render : Float) {capture residual : Float}
+    → (anew ≡ false → n < 6) → Value (2 ^ 100) capture → Value (2 ^ 100) residual
+    → SumsUpTo n s → SumsUpTo (suc (cond anew 0 n)) (added anew render capture residual s)
+unfolding added sumWith
+added-up-to true render few capture residual kept =
+    record { capture = one-more 0 (lit< tt) no-sum capture; residual = one-more 0 (lit< tt) no-sum residual }
+added-up-to {n} false render few capture residual kept =
+    record { capture = one-more n (few refl) (kept .capture) capture; residual = one-more n (few refl) (kept .residual) residual }
+
+-- a ratio of sums has a plus sign
+pub ratio-signed : {n : ℕ} {s : Sums} → hasRatio (s .residual) ≡ true → SumsUpTo n s → Signed false (ratio (s .capture) (s .residual))
+ratio-signed {s = s} some kept = ratio-plus (kept .capture) (s .residual) some
+
+-- ---- streams that only a new ratio moves
+
+pub record StreamsKept (min max : Float) (s : Streams) : Type 0 where
+  pub plain : Between min max (s .plain)
+  pub uncapped : Between min greatestErle (s .uncapped)
 
 pub learnt-kept :
-    {n : ℕ} {min max : Float} {c : Core} → InOrder min max → hasRatio c ≡ true
-    → CoreKept n min max c → CoreKept n min max (learnt min max c)
+    {min max new : Float} (low : Bool) {s : Streams} → InOrder min max → Signed false new
+    → StreamsKept min max s → StreamsKept min max (learnt min max new low s)
 unfolding learnt
-learnt-kept {c = c} limits some kept =
-    let plus = ratio-signed some kept in
+learnt-kept low limits plus kept =
     record {
-      capture = kept .capture;
-      residual = kept .residual;
-      plain = moved-between limits (kept .plain) (c .low) plus;
-      uncapped = moved-between (uncapped-in-order limits) (kept .uncapped) (c .low) plus;
+      plain = moved-between limits (kept .plain) low plus;
+      uncapped = moved-between (uncapped-in-order limits) (kept .uncapped) low plus;
     }
 
 -- ---- what every block moves
@@ -156,7 +156,7 @@ pub record OnsetKept (min max : Float) (o : Onset) : Type 0 where
 pub onset-learnt-kept :
     {min max new : Float} (low : Bool) {o : Onset} → InOrder min max → Signed false new
     → OnsetKept min max o → OnsetKept min max (onsetLearnt min max new low o)
-unfolding onsetLearnt
+unfolding onsetLearnt holdLearnt
 onset-learnt-kept low limits plus kept =
     record {
       compensated = moved-between limits (kept .compensated) low plus;
@@ -165,12 +165,16 @@ onset-learnt-kept low limits plus kept =
     }
 
 -- a hold of at most n falls to one less at most
-pub fallen-at-most : (h : ℤ) (n m : ℕ) → AtMost n h → n ≤ suc m → AtMost m (fallen h)
+fallen-at-most : (h : ℤ) (n m : ℕ) → AtMost n h → n ≤ suc m → AtMost m (fallen h)
 unfolding fallen
 fallen-at-most (pos zero) n m e l = refl
 fallen-at-most (pos (suc k)) n m e l =
     subst (AtMost m) (sym (-ℤ-one (pos (suc k)))) (le-leb k m (omega (arith, leb-true (suc k) n e)))
 fallen-at-most (negsuc k) n m e l = cond-has (AtMost m) (leZ (negsuc k) (negsuc 2147483647)) (λ t. refl) (λ t. refl)
+
+pub less-at-most : (h : ℤ) (n m : ℕ) → AtMost n h → n ≤ suc m → AtMost m (holdLess h)
+unfolding holdLess
+less-at-most h n m e l = cond-has (AtMost m) (leZ (fallen h) (pos 0)) (λ t. leb·zero m) (λ t. fallen-at-most h n m e l)
 
 below-at-most : (x y : Float) → lt x y ≡ true → T (le x y)
 unfolding le
@@ -208,12 +212,11 @@ module _ {min max onset x : Float} (limits : InOrder min max) (o : Between min m
           }
 
 pub one-block-less-kept : {min max : Float} {o : Onset} → InOrder min max → OnsetKept min max o → OnsetKept min max (oneBlockLess min o)
-unfolding oneBlockLess
+unfolding oneBlockLess compensatedBeside
 one-block-less-kept {min} {max} {o} limits kept =
     record {
       compensated =
-          cond-has (Between min max) (leZ (fallen (o .hold)) (pos 150)) (λ e. decayed-between limits (kept .onset) (kept .compensated)) (λ e. kept .compensated);
+          cond-has (Between min max) (leZ (holdLess (o .hold)) (pos 150)) (λ e. decayed-between limits (kept .onset) (kept .compensated)) (λ e. kept .compensated);
       onset = kept .onset;
-      hold =
-          cond-has (AtMost 250) (leZ (fallen (o .hold)) (pos 0)) (λ e. refl) (λ e. fallen-at-most (o .hold) 250 250 (kept .hold) (lit≤ tt));
+      hold = less-at-most (o .hold) 250 250 (kept .hold) (lit≤ tt);
     }

@@ -5,20 +5,19 @@ use mathlib.Core.Bool.{Bool, true, false, cond, _&&_}
 use Prim.Native.Nat.{ℕ, zero, suc, _-_, _≤_, _<_}
 use native.Mathlib.Nat.{eq-or-lt-of-le}
 use native.Mathlib.Omega.{arith}
-use lib.Dec.{T, lit≤, leb·zero}
+use lib.Dec.{T, lit≤}
 use lib.IntN.{ℤ, pos}
 use lib.Signed.{leZ}
 use lib.Ieee.{Float, binary32, ofBits, mul, lt, le}
 use lib.Ieee.Fits.{and-l, and-r}
 use lib.Ieee.Positive.{positive, le-trans-positive, mul-mono}
 use Rattle.aec3_common.specs.Binary32.{one32, larger}
-use Rattle.aec3_common.specs.Counts.{fallen}
 use Rattle.aec3_common.specs.Settings.{greatestErle}
 use Rattle.aec3_common.proofs.Choices.{cond-has}
 use Rattle.aec3_common.proofs.Fitting.{Between, level}
 use Rattle.aec3_common.proofs.Rounding.{failed, at-most-if-not-above}
-use Rattle.erle_bands.specs.Band.{decayFactor, Onset, decayed, oneBlockLess}
-use Rattle.erle_bands.proofs.Range.{AtMost, InOrder, one-positive, decay-positive, min-positive, between-positive, between-erle, OnsetKept, fallen-at-most, decay-at-most, decay-above, one-block-less-kept}
+use Rattle.erle_bands.specs.Band.{decayFactor, Onset, holdLess, decayed, compensatedBeside, waitsBeside, oneBlockLess}
+use Rattle.erle_bands.proofs.Range.{AtMost, InOrder, one-positive, decay-positive, min-positive, between-positive, between-erle, OnsetKept, less-at-most, decay-at-most, decay-above, one-block-less-kept}
 
 -- ---- the compensated value decays
 
@@ -92,19 +91,19 @@ resting-start kept = record { hold = kept .hold; near = λ h. absurd (omega arit
 pub one-block-less-resting :
     {min max : Float} {r : ℕ} {o : Onset} → InOrder min max → OnsetKept min max o
     → Resting (suc r) o → Resting r (oneBlockLess min o)
-unfolding oneBlockLess
+unfolding oneBlockLess compensatedBeside waitsBeside
 one-block-less-resting {min} {max} {r} {o} limits kept resting =
     record {
-      hold = cond-has (AtMost (r - 250)) (leZ h (pos 0)) (λ e. leb·zero (r - 250)) (λ e. fell (r - 250) (omega arith));
+      hold = fell (r - 250) (omega arith);
       near = λ few. near (eq-or-lt-of-le few);
       waits = λ few. rw (fell 0 (omega arith));
     }
   where
     h : ℤ
-    h = fallen (o .hold)
+    h = holdLess (o .hold)
 
     fell : (m : ℕ) → suc r - 250 ≤ suc m → AtMost m h
-    fell m few = fallen-at-most (o .hold) (suc r - 250) m (resting .hold) few
+    fell m few = less-at-most (o .hold) (suc r - 250) m (resting .hold) few
 
     near : (r ≡ 401) ⊎ (r < 401) → Near (o .onset) r (cond (leZ h (pos 150)) (decayed min (o .onset) (o .compensated)) (o .compensated))
     near (inl e) =

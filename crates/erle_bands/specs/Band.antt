@@ -1,4 +1,5 @@
--- One band of one channel of the subband estimator: what it holds, and how a block moves it.
+-- One band of one channel of the subband estimator: what it holds, in three parts, and how a block moves each. The rule of each field has
+-- a name and stands once.
 use mathlib.Core.Bool.{Bool, true, false, cond, _||_}
 use lib.IntN.{ℤ, pos}
 use lib.Signed.{leZ}
@@ -26,47 +27,59 @@ share new low old = cond (lt new old) (cond low zero32 shareDown) shareUp
 unfoldable pub streamMoved : Float → Float → Float → Bool → Float → Float
 streamMoved min max new low old = clamped (moved old new (share new low old)) min max
 
--- ---- what only converged blocks move
+-- ---- the sums, to which only converged blocks add
 
--- the held sums of capture and residual power, whether low energy was noted, the plain and the uncapped ERLE
-pub record Core : Type 0 where
+-- the held sums of capture and residual power, and whether low energy was noted
+pub record Sums : Type 0 where
   pub capture : Float
   pub residual : Float
   pub low : Bool
+
+-- a reset fills sums with 0 and low energy with no
+abbrev pub freshSums : Sums
+freshSums = record { capture = zero32; residual = zero32; low = false }
+
+-- a power is added to a held sum, or to zero where the sums begin again
+unfoldable pub sumWith : Bool → Float → Float → Float
+sumWith anew sum power = add binary32 (cond anew zero32 sum) power
+
+-- low energy is noted where render is below T; what was noted stays until the sums begin again
+unfoldable pub lowWith : Bool → Bool → Float → Bool
+lowWith anew low render = cond anew false low || lt render energyThreshold
+
+-- A converged channel adds capture and residual power, and notes low energy.
+unfoldable pub added : Bool → Float → Float → Float → Sums → Sums
+added anew render capture residual s =
+    record {
+      capture = sumWith anew (s .capture) capture;
+      residual = sumWith anew (s .residual) residual;
+      low = lowWith anew (s .low) render;
+    }
+
+-- With a residual sum above 0 there is a ratio, of the two sums.
+abbrev pub hasRatio : Float → Bool
+hasRatio residual = lt zero32 residual
+
+abbrev pub ratio : Float → Float → Float
+ratio capture residual = div binary32 capture residual
+
+-- ---- the streams that only a new ratio moves
+
+-- the plain and the uncapped ERLE
+pub record Streams : Type 0 where
   pub plain : Float
   pub uncapped : Float
 
--- the sums, and the noting of low energy, begin again from zero
-unfoldable pub emptied : Core → Core
-emptied c = record { capture = zero32; residual = zero32; low = false; plain = c .plain; uncapped = c .uncapped }
+-- a reset fills streams with the minimum
+abbrev pub freshStreams : Float → Streams
+freshStreams min = record { plain = min; uncapped = min }
 
--- A converged channel adds capture and residual power, and notes low energy where render is below T.
-unfoldable pub added : Float → Float → Float → Core → Core
-added render capture residual c =
+-- The plain stream goes up to the band's maximum, the uncapped one up to 100,000.
+unfoldable pub learnt : Float → Float → Float → Bool → Streams → Streams
+learnt min max new low s =
     record {
-      capture = add binary32 (c .capture) capture;
-      residual = add binary32 (c .residual) residual;
-      low = c .low || lt render energyThreshold;
-      plain = c .plain;
-      uncapped = c .uncapped;
-    }
-
--- With a residual sum above 0 there is a ratio.
-abbrev pub hasRatio : Core → Bool
-hasRatio c = lt zero32 (c .residual)
-
-abbrev pub ratio : Core → Float
-ratio c = div binary32 (c .capture) (c .residual)
-
--- A new ratio moves the plain stream, up to the band's maximum, and the uncapped one, up to 100,000.
-unfoldable pub learnt : Float → Float → Core → Core
-learnt min max c =
-    record {
-      capture = c .capture;
-      residual = c .residual;
-      low = c .low;
-      plain = streamMoved min max (ratio c) (c .low) (c .plain);
-      uncapped = streamMoved min greatestErle (ratio c) (c .low) (c .uncapped);
+      plain = streamMoved min max new low (s .plain);
+      uncapped = streamMoved min greatestErle new low (s .uncapped);
     }
 
 -- ---- what every block moves where onset detection is on; the onset value stands beside it
@@ -78,28 +91,50 @@ pub record Onset : Type 0 where
   pub waits : Bool
   pub hold : ℤ
 
--- A new ratio moves the compensated stream; without low energy the band stops waiting and its hold becomes 250. The onset
--- value stays.
+-- a reset fills compensated stream and onset value with the minimum, waiting with yes, holds with 0
+abbrev pub freshOnset : Float → Onset
+freshOnset min = record { compensated = min; onset = min; waits = true; hold = pos 0 }
+
+-- by a new ratio without low energy the band stops waiting, and its hold becomes 250
+unfoldable pub waitsLearnt : Bool → Bool → Bool
+waitsLearnt low waits = cond low waits false
+
+unfoldable pub holdLearnt : Bool → ℤ → ℤ
+holdLearnt low hold = cond low hold (pos 250)
+
+-- A new ratio moves the compensated stream, waiting and hold. The onset value stays.
 unfoldable pub onsetLearnt : Float → Float → Float → Bool → Onset → Onset
 onsetLearnt min max new low o =
     record {
       compensated = streamMoved min max new low (o .compensated);
       onset = o .onset;
-      waits = cond low (o .waits) false;
-      hold = cond low (o .hold) (pos 250);
+      waits = waitsLearnt low (o .waits);
+      hold = holdLearnt low (o .hold);
     }
+
+-- the hold falls by 1; at 0 or less it is 0
+unfoldable pub holdLess : ℤ → ℤ
+holdLess hold = cond (leZ (fallen hold) (pos 0)) (pos 0) (fallen hold)
 
 -- A compensated value above the onset value becomes the greatest of the onset value, 0.97 times itself and the minimum.
 unfoldable pub decayed : Float → Float → Float → Float
 decayed min onset x = cond (lt onset x) (larger (larger onset (mul binary32 decayFactor x)) min) x
 
--- The hold falls by 1: at 150 or less the compensated value decays, at 0 or less the hold is 0 and the band waits.
+-- it does so beside a hold of 150 or less
+unfoldable pub compensatedBeside : Float → ℤ → Float → Float → Float
+compensatedBeside min hold onset x = cond (leZ hold (pos 150)) (decayed min onset x) x
+
+-- beside a hold of 0 or less the band waits
+unfoldable pub waitsBeside : ℤ → Bool → Bool
+waitsBeside hold waits = cond (leZ hold (pos 0)) true waits
+
+-- One block less to hold; compensated value and waiting go by the hold after it.
 unfoldable pub oneBlockLess : Float → Onset → Onset
 oneBlockLess min o =
-    let hold = fallen (o .hold) in
+    let hold = holdLess (o .hold) in
     record {
-      compensated = cond (leZ hold (pos 150)) (decayed min (o .onset) (o .compensated)) (o .compensated);
+      compensated = compensatedBeside min hold (o .onset) (o .compensated);
       onset = o .onset;
-      waits = cond (leZ hold (pos 0)) true (o .waits);
-      hold = cond (leZ hold (pos 0)) (pos 0) hold;
+      waits = waitsBeside hold (o .waits);
+      hold = hold;
     }

@@ -5,8 +5,8 @@ use aec3_common::counts::fallen;
 use aec3_common::larger;
 use aec3_common::moved;
 ghost use mathlib.Core.Path.{_≡_};
-ghost use Rattle.erle_bands.specs.Band.{share as Band·share, streamMoved, decayed as Band·decayed};
-ghost use Rattle.erle_bands.specs.Steps.{sumWith, lowWith, streamBy, onsetBy, waitBy, holdBy, holdLess, compensatedBeside, waitBeside};
+ghost use mathlib.Core.Bool.{cond, not, _&&_};
+ghost use Rattle.erle_bands.specs.Band.{share as Band·share, streamMoved, sumWith, lowWith, hasRatio, waitsLearnt, holdLearnt, holdLess, decayed as Band·decayed, compensatedBeside, waitsBeside};
 
 // For so many blocks a band with a new ratio is held.
 const BLOCKS_FOR_ONSET_DETECTION: i32 = 250;
@@ -66,7 +66,7 @@ pub fn stream_by(
     min_erle: f32,
     max_erle: f32,
 ) -> f32
-    ensures { λ r. ⌜ r ≡ streamBy «min_erle» «max_erle» «new_erle» e2 «low_render_energy» erle ⌝ }
+    ensures { λ r. ⌜ r ≡ cond (hasRatio e2) (streamMoved «min_erle» «max_erle» «new_erle» «low_render_energy» erle) erle ⌝ }
 {
     if e2 > 0.0 {
         update_erle_band(erle, new_erle, low_render_energy, min_erle, max_erle)
@@ -77,14 +77,14 @@ pub fn stream_by(
 
 // Whether a band has a new ratio without low energy.
 fn onset_by(e2: f32, low_render_energy: bool) -> bool
-    ensures { λ r. ⌜ r ≡ onsetBy e2 «low_render_energy» ⌝ }
+    ensures { λ r. ⌜ r ≡ hasRatio e2 && not «low_render_energy» ⌝ }
 {
     (e2 > 0.0) & !low_render_energy
 }
 
 // Whether it waits for an onset still.
 pub fn wait_by(waits: bool, e2: f32, low_render_energy: bool) -> bool
-    ensures { λ r. ⌜ r ≡ waitBy e2 «low_render_energy» waits ⌝ }
+    ensures { λ r. ⌜ r ≡ cond (hasRatio e2) (waitsLearnt «low_render_energy» waits) waits ⌝ }
 {
     if onset_by(e2, low_render_energy) {
         false
@@ -95,7 +95,7 @@ pub fn wait_by(waits: bool, e2: f32, low_render_energy: bool) -> bool
 
 // Its hold, which begins again there.
 pub fn hold_by(hold: i32, e2: f32, low_render_energy: bool) -> i32
-    ensures { λ r. ⌜ r ≡ holdBy e2 «low_render_energy» hold ⌝ }
+    ensures { λ r. ⌜ r ≡ cond (hasRatio e2) (holdLearnt «low_render_energy» hold) hold ⌝ }
 {
     if onset_by(e2, low_render_energy) {
         BLOCKS_FOR_ONSET_DETECTION
@@ -136,7 +136,7 @@ pub fn compensated_beside(min_erle: f32, hold: i32, onset: f32, erle: f32) -> f3
 
 // Whether the band waits, beside the hold after the block.
 pub fn wait_beside(hold: i32, waits: bool) -> bool
-    ensures { λ r. ⌜ r ≡ waitBeside hold waits ⌝ }
+    ensures { λ r. ⌜ r ≡ waitsBeside hold waits ⌝ }
 {
     if hold <= 0 { true } else { waits }
 }

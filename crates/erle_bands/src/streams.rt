@@ -4,7 +4,9 @@ use filter_sections::max_erle;
 ghost use mathlib.Core.Path.{_≡_};
 ghost use lib.ListN.{length};
 ghost use Rattle.filter_sections.specs.Subbands.{maxErle};
-ghost use Rattle.erle_bands.specs.Steps.{streamBy, streamsBy};
+ghost use mathlib.Core.Bool.{cond};
+ghost use Rattle.erle_bands.specs.Band.{hasRatio, streamMoved};
+ghost use Rattle.erle_bands.specs.Steps.{allStreamsMoved};
 
 // The limits of a stream: the minimum, and the maxima of the lower and the upper bands.
 pub struct Limits {
@@ -14,7 +16,7 @@ pub struct Limits {
 }
 
 fn band_by(erle: f32, new_erle: f32, e2: f32, low: bool, limits: Limits, k: usize) -> f32
-    ensures { λ r. ⌜ r ≡ streamBy (limits .min) (maxErle (limits .«max_l») (limits .«max_h») k) «new_erle» e2 low erle ⌝ }
+    ensures { λ r. ⌜ r ≡ cond (hasRatio e2) (streamMoved (limits .min) (maxErle (limits .«max_l») (limits .«max_h») k) «new_erle» low erle) erle ⌝ }
 {
     let max = max_erle(limits.max_l, limits.max_h, k);
     stream_by(erle, new_erle, e2, low, limits.min, max)
@@ -29,7 +31,7 @@ pub fn move_stream(
     limits: Limits,
 )
     requires { ⌜ length (now s) ≡ 65 ⌝ }
-    ensures { λ r. ⌜ now (s .exit) ≡ streamsBy (limits .min) (limits .«max_l») (limits .«max_h») (now («new_erle» .entry)) (now (e2 .entry)) (now (low .entry)) (now (s .entry)) ⌝ }
+    ensures { λ r. ⌜ now (s .exit) ≡ allStreamsMoved limits (now («new_erle» .entry)) (now (e2 .entry)) (now (low .entry)) (now (s .entry)) ⌝ }
 {
     for k in 1..64 {
         s[k] = band_by(s[k], new_erle[k], e2[k], low[k], limits, k);

@@ -9,6 +9,7 @@ use Rattle.aec3_common.specs.Calls.{Call, update, reset}
 use Rattle.aec3_common.specs.Refusal.{accepted, badState}
 use Rattle.aec3_common.proofs.Calls.{update-ok, update-not-20, run-keeps}
 use Rattle.aec3_common.proofs.Choices.{cond-has}
+use Rattle.subband_erle_estimator.specs.declared.settings.SubbandSettings.{SubbandSettings}
 use Rattle.subband_erle_estimator.specs.declared.SubbandErleEstimator.{SubbandErleEstimator}
 use Rattle.subband_erle_estimator.specs.Subband.{stateOk, updateRefusal, stateRefusal, startAnswer, resetAnswer, updateAnswer}
 use Rattle.subband_erle_estimator.specs.Resting.{answer, run}
@@ -33,8 +34,8 @@ answer-not-20 s (update channels converged render capture residual) ok e =
     update-not-20 (s .settings .«num_capture_channels») channels converged render capture residual (rw ok at e)
 answer-not-20 s reset ok e = let never : _≡_ {A = ℕ} 0 20 = rw ok at e in omega arith
 
-pub never-bad-state : NeverBadState
+pub never-bad-state : (g : SubbandSettings) → startAnswer g .refused ≡ accepted → NeverBadState g
 unfolding NeverBadState startAnswer run
-never-bad-state g calls next inBinary32 e =
+never-bad-state g e calls next =
     let s = run (startAnswer g .state) calls in
     answer-not-20 s next (state-ok s (run-keeps SumsKept (λ t c. answer t c .state) answer-sums calls _ (rw e (started-sums g e))))

@@ -4,516 +4,472 @@ use mathlib.Core.Bool.{Bool, true, false, cond, _&&_}
 use mathlib.Core.List.{List}
 use Prim.Native.Nat.{ℕ, _<_}
 use lib.Dec.{ltb, eqb}
-use lib.IntN.{pos}
-use lib.Ieee.{Float, nan, binary32, div, lt}
+use lib.IntN.{ℤ, pos}
+use lib.Ieee.{Float, nan}
 use lib.ListN.{length, getD}
-use Rattle.aec3_common.specs.Binary32.{zero32}
 use Rattle.aec3_common.specs.Lists.{tab}
 use Rattle.aec3_common.specs.Settings.{greatestErle}
 use Rattle.aec3_common.specs.Spectra.{innerBand, shownBand, endsCopied}
-use Rattle.aec3_common.proofs.Bands.{ends-are}
-use Rattle.aec3_common.proofs.Choices.{and-false}
-use Rattle.aec3_common.proofs.Tables.{tab-is, length-tab, getD-tab}
+use Rattle.aec3_common.proofs.Bands.{ends-are, shown-below}
+use Rattle.aec3_common.proofs.Choices.{and-false, cond-has}
+use Rattle.aec3_common.proofs.Tables.{length-tab, getD-tab, tab-same}
 use Rattle.filter_sections.specs.Subbands.{maxErle}
-use Rattle.erle_bands.specs.Band.{Core, ratio, learnt, Onset, onsetLearnt, oneBlockLess}
-use Rattle.erle_bands.specs.Steps.{sumWith, sumsWith, lowWith, lowsWith, ratiosOf, streamBy, streamsBy, waitsBy, holdsBy, holdLess, holdsLess, compensatedBeside, compensatedsBeside, waitBeside, waitsBeside}
-use Rattle.erle_bands.proofs.Bands.{added-capture, added-residual, added-low, added-plain, added-uncapped, learnt-capture, learnt-residual, learnt-low, less-hold, less-compensated, less-waits, stream-plain, stream-uncapped, stream-compensated, wait-learnt, hold-learnt}
+use Rattle.erle_bands.specs.declared.streams.Limits.{Limits}
+use Rattle.erle_bands.specs.Band.{Sums, added, hasRatio, ratio, streamMoved, Streams, learnt, Onset, waitsLearnt, holdLearnt, onsetLearnt, holdLess, compensatedBeside, waitsBeside, oneBlockLess}
+use Rattle.erle_bands.specs.Steps.{sumsWith, lowsWith, ratiosOf, learns, allStreamsMoved, allWaitsLearnt, allHoldsLearnt, rests, allHoldsLess, allCompensatedBeside, allWaitsBeside}
+use Rattle.erle_bands.proofs.Bands.{bands-stay}
 use Rattle.subband_erle_estimator.specs.declared.settings.SubbandSettings.{SubbandSettings}
 use Rattle.subband_erle_estimator.specs.declared.channel.SubbandChannel.{SubbandChannel}
-use Rattle.subband_erle_estimator.specs.Channel.{Block, quiet, allPoints, pointsWith, coreAt, onsetAt, heard, isNew, maxAt, coreAfter, onsetAfter, channelAfter}
-use Rattle.subband_erle_estimator.specs.Steps.{limitsOf, onsetLearntBy, streamsLearntBy, learntBy, heardBy, convergedBy, restedBy}
+use Rattle.subband_erle_estimator.specs.Channel.{sumsAt, streamsAt, onsetAt, channelFrom, compensatedShown, Block, quiet, allPoints, pointsWith, pointsAfter, sumsAfter, isSixth, isNew, newRatio, maxAt, streamsAfter, onsetAfter, channelAfter}
+use Rattle.subband_erle_estimator.specs.Steps.{limitsOf, uncappedLimits, onsetLearntBy, ownRatio, streamsLearnt, onsetsLearnt, learntBy}
+use Rattle.subband_erle_estimator.proofs.Parts.{Long, long-from, sums-from, streams-from, onset-from, same-parts, own-parts}
 
--- each array of a record has 65 entries
-pub record Long (r : SubbandChannel) : Type 0 where
-  pub plain : length (r .erle) ≡ 65
-  pub compensated : length (r .«erle_onset_compensated») ≡ 65
-  pub uncapped : length (r .«erle_unbounded») ≡ 65
-  pub onset : length (r .«erle_onsets») ≡ 65
-  pub waits : length (r .«coming_onset») ≡ 65
-  pub hold : length (r .«hold_counters») ≡ 65
-  pub capture : length (r .y2) ≡ 65
-  pub residual : length (r .e2) ≡ 65
-  pub low : length (r .«low_render_energy») ≡ 65
+-- a field of a choice is a choice of fields
+field : {A B : Type 0} (f : A → B) (t : Bool) (x y : A) → cond t (f x) (f y) ≡ f (cond t x y)
+field f true x y = refl
+field f false x y = refl
+
+-- ---- the powers of a converged block are added
+
+module _ (x y e : List Float) (c : SubbandChannel) where
+  -- the band's sums with the block's powers
+  unfoldable pub heardSums : ℕ → Sums
+  heardSums k = added (eqb (c .«num_points») allPoints) (getD x k nan) (getD y k nan) (getD e k nan) (sumsAt c k)
+
+  unfoldable pub heardBy : SubbandChannel
+  heardBy = channelFrom (pointsWith (c .«num_points»)) heardSums (streamsAt c) (onsetAt c)
+
+  pub heard-is :
+      {y2 e2 : List Float} {low : List Bool} {points : ℕ} → Long c
+      → y2 ≡ sumsWith (eqb (c .«num_points») allPoints) (c .y2) y
+      → e2 ≡ sumsWith (eqb (c .«num_points») allPoints) (c .e2) e
+      → low ≡ lowsWith (eqb (c .«num_points») allPoints) (c .«low_render_energy») x
+      → points ≡ pointsWith (c .«num_points»)
+      → _≡_ {A = SubbandChannel}
+      (record {
+        erle = c .erle;
+        «erle_onset_compensated» = c .«erle_onset_compensated»;
+        «erle_unbounded» = c .«erle_unbounded»;
+        «erle_onsets» = c .«erle_onsets»;
+        «coming_onset» = c .«coming_onset»;
+        «hold_counters» = c .«hold_counters»;
+        y2 = y2;
+        e2 = e2;
+        «low_render_energy» = low;
+        «num_points» = points;
+      })
+      heardBy
+  unfolding heardBy heardSums channelFrom sumsWith lowsWith added
+  heard-is l capture residual low points =
+      λ i.
+      record {
+        «num_points» = points i;
+        y2 = capture i;
+        e2 = residual i;
+        «low_render_energy» = low i;
+        erle = bands-stay nan (c .erle) (l .plain) i;
+        «erle_unbounded» = bands-stay nan (c .«erle_unbounded») (l .uncapped) i;
+        «erle_onset_compensated» = bands-stay nan (c .«erle_onset_compensated») (l .compensated) i;
+        «erle_onsets» = bands-stay nan (c .«erle_onsets») (l .onset) i;
+        «coming_onset» = bands-stay false (c .«coming_onset») (l .waits) i;
+        «hold_counters» = bands-stay (pos 0) (c .«hold_counters») (l .hold) i;
+      }
+
+  -- and on a sixth point learnt from
+  unfoldable pub convergedBy : SubbandSettings → SubbandChannel
+  convergedBy s = cond (eqb (pointsWith (c .«num_points»)) allPoints) (learntBy s heardBy) heardBy
+
+  module _ (s : SubbandSettings) (r : SubbandChannel) (h : r ≡ heardBy) where
+    points-heard : r .«num_points» ≡ pointsWith (c .«num_points»)
+    unfolding heardBy channelFrom
+    points-heard = ap (λ (z : SubbandChannel). z .«num_points») h
+
+    pub converged-six : eqb (r .«num_points») allPoints ≡ true → learntBy s r ≡ convergedBy s
+    unfolding convergedBy
+    converged-six six = let six : eqb (pointsWith (c .«num_points»)) allPoints ≡ true = rw points-heard at six in simp (six, h)
+
+    pub converged-few : eqb (r .«num_points») allPoints ≡ false → r ≡ convergedBy s
+    unfolding convergedBy
+    converged-few few = let few : eqb (pointsWith (c .«num_points»)) allPoints ≡ false = rw points-heard at few in simp (few, h)
+
+-- ---- new ratios are learnt from
+
+-- the maximum of a stream that has the same one in all bands
+same-maxima : (v : Float) (k : ℕ) → maxErle v v k ≡ v
+unfolding maxErle
+same-maxima v k = go (ltb k 32)
+  where
+    go : (t : Bool) → cond t v v ≡ v
+    go true = refl
+    go false = refl
+
+-- a stream moved by ratios of the record's own sums
+module _ (s : SubbandSettings) (c : SubbandChannel) {news : List Float} (n : news ≡ ratiosOf (c .y2) (c .e2)) where
+  ratio-at : (k : ℕ) → k < 65 → getD news k nan ≡ ownRatio s c k
+  unfolding ratiosOf
+  ratio-at k h = ap (λ (z : List Float). getD z k nan) n ∙ getD-tab 65 (λ j. ratio (getD (c .y2) j nan) (getD (c .e2) j nan)) k nan h
+
+  module _ {plain uncapped : List Float}
+      (p : plain ≡ allStreamsMoved (limitsOf s) news (c .e2) (c .«low_render_energy») (c .erle))
+      (u : uncapped ≡ allStreamsMoved (uncappedLimits s) news (c .e2) (c .«low_render_energy») (c .«erle_unbounded»))
+    where
+      plain-all : plain ≡ tab 65 (λ k. streamsLearnt s c k .plain)
+      unfolding allStreamsMoved streamsLearnt learnt
+      plain-all =
+          p
+          ∙ tab-same 65 nan _ _
+          (λ k h.
+          rw (ratio-at k h)
+          (field (λ (z : Streams). z .plain) (learns (c .e2) k)
+          (learnt (s .min) (maxErle (s .«max_l») (s .«max_h») k) (ownRatio s c k) (sumsAt c k .low) (streamsAt c k)) (streamsAt c k)))
+
+      uncapped-all : uncapped ≡ tab 65 (λ k. streamsLearnt s c k .uncapped)
+      unfolding allStreamsMoved streamsLearnt learnt
+      uncapped-all =
+          u
+          ∙ tab-same 65 nan _ _
+          (λ k h.
+          rw (ratio-at k h, same-maxima greatestErle k)
+          (field (λ (z : Streams). z .uncapped) (learns (c .e2) k)
+          (learnt (s .min) (maxErle (s .«max_l») (s .«max_h») k) (ownRatio s c k) (sumsAt c k .low) (streamsAt c k)) (streamsAt c k)))
+
+      -- a record with these streams, and what onset detection holds as it was
+      abbrev moved : SubbandChannel
+      moved =
+          record {
+            erle = plain;
+            «erle_onset_compensated» = c .«erle_onset_compensated»;
+            «erle_unbounded» = uncapped;
+            «erle_onsets» = c .«erle_onsets»;
+            «coming_onset» = c .«coming_onset»;
+            «hold_counters» = c .«hold_counters»;
+            y2 = c .y2;
+            e2 = c .e2;
+            «low_render_energy» = c .«low_render_energy»;
+            «num_points» = c .«num_points»;
+          }
+
+      moved-long : Long c → Long moved
+      unfolding allStreamsMoved
+      moved-long l =
+          record {
+            capture = l .capture;
+            residual = l .residual;
+            low = l .low;
+            plain = ap length p ∙ length-tab 65 _;
+            uncapped = ap length u ∙ length-tab 65 _;
+            compensated = l .compensated;
+            onset = l .onset;
+            waits = l .waits;
+            hold = l .hold;
+          }
+
+      moved-streams : (k : ℕ) → k < 65 → streamsAt moved k ≡ streamsLearnt s c k
+      moved-streams k h =
+          λ i.
+          record {
+            plain = (ap (λ (z : List Float). getD z k nan) plain-all ∙ getD-tab 65 (λ j. streamsLearnt s c j .plain) k nan h) i;
+            uncapped = (ap (λ (z : List Float). getD z k nan) uncapped-all ∙ getD-tab 65 (λ j. streamsLearnt s c j .uncapped) k nan h) i;
+          }
+
+      pub learnt-off : Long c → s .«onset_detection» ≡ false → moved ≡ learntBy s c
+      unfolding learntBy onsetsLearnt
+      learnt-off l off = own-parts moved (moved-long l) ∙ same-parts refl (λ k h. refl) moved-streams (λ k h. rw off)
+
+      -- with onset detection on what it holds is moved too
+      pub learnt-on : s .«onset_detection» ≡ true → onsetLearntBy (limitsOf s) news (c .e2) (c .«low_render_energy») moved ≡ learntBy s c
+      unfolding onsetLearntBy learntBy onsetsLearnt
+      learnt-on on = same-parts refl (λ k h. refl) moved-streams (λ k h. rw (ratio-at k h, on))
+
+-- what onset detection holds, by ratios and sums that are lent
+module _ (g : Limits) (news residuals : List Float) (lows : List Bool) (c : SubbandChannel) (l : Long c) where
+  pub onset-learnt-is :
+      {compensated : List Float} {waits : List Bool} {holds : List ℤ}
+      → compensated ≡ allStreamsMoved g news residuals lows (c .«erle_onset_compensated»)
+      → waits ≡ allWaitsLearnt residuals lows (c .«coming_onset»)
+      → holds ≡ allHoldsLearnt residuals lows (c .«hold_counters»)
+      → _≡_ {A = SubbandChannel}
+      (record {
+        erle = c .erle;
+        «erle_onset_compensated» = compensated;
+        «erle_unbounded» = c .«erle_unbounded»;
+        «erle_onsets» = c .«erle_onsets»;
+        «coming_onset» = waits;
+        «hold_counters» = holds;
+        y2 = c .y2;
+        e2 = c .e2;
+        «low_render_energy» = c .«low_render_energy»;
+        «num_points» = c .«num_points»;
+      })
+      (onsetLearntBy g news residuals lows c)
+  unfolding onsetLearntBy channelFrom allStreamsMoved allWaitsLearnt allHoldsLearnt onsetLearnt
+  onset-learnt-is compensated waits holds =
+      λ i.
+      record {
+        «num_points» = c .«num_points»;
+        y2 = bands-stay nan (c .y2) (l .capture) i;
+        e2 = bands-stay nan (c .e2) (l .residual) i;
+        «low_render_energy» = bands-stay false (c .«low_render_energy») (l .low) i;
+        erle = bands-stay nan (c .erle) (l .plain) i;
+        «erle_unbounded» = bands-stay nan (c .«erle_unbounded») (l .uncapped) i;
+        «erle_onset_compensated» = (compensated ∙ tab-same 65 nan _ _ (λ k h. field (λ (o : Onset). o .compensated) (learns residuals k) (new k) (onsetAt c k))) i;
+        «erle_onsets» = (bands-stay nan (c .«erle_onsets») (l .onset) ∙ tab-same 65 nan _ _ (λ k h. stays (learns residuals k) (new k) (onsetAt c k) refl)) i;
+        «coming_onset» = (waits ∙ tab-same 65 false _ _ (λ k h. field (λ (o : Onset). o .waits) (learns residuals k) (new k) (onsetAt c k))) i;
+        «hold_counters» = (holds ∙ tab-same 65 (pos 0) _ _ (λ k h. field (λ (o : Onset). o .hold) (learns residuals k) (new k) (onsetAt c k))) i;
+      }
+    where
+      new : ℕ → Onset
+      new k = onsetLearnt (g .min) (maxErle (g .«max_l») (g .«max_h») k) (getD news k nan) (getD lows k false) (onsetAt c k)
+
+      stays : (t : Bool) (x y : Onset) → x .onset ≡ y .onset → y .onset ≡ cond t x y .onset
+      stays true x y e = sym e
+      stays false x y e = refl
+
+-- ---- one block less to hold, and bands 0 and 64 of the three streams
+
+module _ (s : SubbandSettings) (c : SubbandChannel) where
+  unfoldable pub restedOnset : ℕ → Onset
+  restedOnset k = cond (rests (s .«onset_detection») k) (oneBlockLess (s .min) (onsetAt c k)) (onsetAt c k)
+
+  unfoldable pub restedBy : SubbandChannel
+  restedBy = channelFrom (c .«num_points») (sumsAt c) (λ k. streamsAt c (shownBand k)) (compensatedShown restedOnset)
+
+  module _ {holds : List ℤ} (lower : holds ≡ allHoldsLess (s .«onset_detection») (c .«hold_counters»)) where
+    -- a hold after it
+    hold-at : (k : ℕ) → k < 65 → getD holds k (pos 0) ≡ restedOnset k .hold
+    unfolding allHoldsLess restedOnset oneBlockLess
+    hold-at k h =
+        ap (λ (z : List ℤ). getD z k (pos 0)) lower
+        ∙ getD-tab 65 (λ j. cond (rests (s .«onset_detection») j) (holdLess (getD (c .«hold_counters») j (pos 0))) (getD (c .«hold_counters») j (pos 0))) k (pos 0) h
+        ∙ field (λ (o : Onset). o .hold) (rests (s .«onset_detection») k) (oneBlockLess (s .min) (onsetAt c k)) (onsetAt c k)
+
+    hold-all : holds ≡ tab 65 (λ k. restedOnset k .hold)
+    unfolding allHoldsLess restedOnset oneBlockLess
+    hold-all = lower ∙ tab-same 65 (pos 0) _ _ (λ k h. field (λ (o : Onset). o .hold) (rests (s .«onset_detection») k) (oneBlockLess (s .min) (onsetAt c k)) (onsetAt c k))
+
+    waits-all : {waits : List Bool} → waits ≡ allWaitsBeside (s .«onset_detection») holds (c .«coming_onset») → waits ≡ tab 65 (λ k. restedOnset k .waits)
+    unfolding allWaitsBeside restedOnset oneBlockLess
+    waits-all e =
+        e
+        ∙ tab-same 65 false _ _
+        (λ k h. rw (hold-at k h) (go k (rests (s .«onset_detection») k)))
+      where
+        go :
+            (k : ℕ) (t : Bool)
+            → cond t (waitsBeside (cond t (oneBlockLess (s .min) (onsetAt c k)) (onsetAt c k) .hold) (onsetAt c k .waits)) (onsetAt c k .waits)
+            ≡ cond t (oneBlockLess (s .min) (onsetAt c k)) (onsetAt c k) .waits
+        go k true = refl
+        go k false = refl
+
+    compensated-all :
+        {decayed : List Float} → decayed ≡ allCompensatedBeside (s .«onset_detection») (s .min) holds (c .«erle_onsets») (c .«erle_onset_compensated»)
+        → endsCopied decayed ≡ tab 65 (λ k. restedOnset (shownBand k) .compensated)
+    unfolding allCompensatedBeside restedOnset oneBlockLess
+    compensated-all {decayed} e =
+        ap endsCopied e
+        ∙ ends-are (tab 65 f) (λ k. restedOnset k .compensated) (length-tab 65 f)
+        (λ k h inner. getD-tab 65 f k nan h ∙ rw (hold-at k h) (go k (rests (s .«onset_detection») k)))
+      where
+        f : ℕ → Float
+        f k =
+            cond (rests (s .«onset_detection») k)
+            (compensatedBeside (s .min) (getD holds k (pos 0)) (getD (c .«erle_onsets») k nan) (getD (c .«erle_onset_compensated») k nan))
+            (getD (c .«erle_onset_compensated») k nan)
+
+        go :
+            (k : ℕ) (t : Bool)
+            → cond t (compensatedBeside (s .min) (cond t (oneBlockLess (s .min) (onsetAt c k)) (onsetAt c k) .hold) (onsetAt c k .onset) (onsetAt c k .compensated)) (onsetAt c k .compensated)
+            ≡ cond t (oneBlockLess (s .min) (onsetAt c k)) (onsetAt c k) .compensated
+        go k true = refl
+        go k false = refl
+
+    -- the onset values stay
+    onsets-all : Long c → c .«erle_onsets» ≡ tab 65 (λ k. restedOnset k .onset)
+    unfolding restedOnset oneBlockLess
+    onsets-all l =
+        bands-stay nan (c .«erle_onsets») (l .onset)
+        ∙ tab-same 65 nan _ _ (λ k h. go k (rests (s .«onset_detection») k))
+      where
+        go : (k : ℕ) (t : Bool) → onsetAt c k .onset ≡ cond t (oneBlockLess (s .min) (onsetAt c k)) (onsetAt c k) .onset
+        go k true = refl
+        go k false = refl
+
+    pub rested-is :
+        {decayed plain compensated uncapped : List Float} {waits : List Bool} → Long c
+        → decayed ≡ allCompensatedBeside (s .«onset_detection») (s .min) holds (c .«erle_onsets») (c .«erle_onset_compensated»)
+        → waits ≡ allWaitsBeside (s .«onset_detection») holds (c .«coming_onset»)
+        → plain ≡ endsCopied (c .erle) → compensated ≡ endsCopied decayed → uncapped ≡ endsCopied (c .«erle_unbounded»)
+        → _≡_ {A = SubbandChannel}
+        (record {
+          erle = plain;
+          «erle_onset_compensated» = compensated;
+          «erle_unbounded» = uncapped;
+          «erle_onsets» = c .«erle_onsets»;
+          «coming_onset» = waits;
+          «hold_counters» = holds;
+          y2 = c .y2;
+          e2 = c .e2;
+          «low_render_energy» = c .«low_render_energy»;
+          «num_points» = c .«num_points»;
+        })
+        restedBy
+    unfolding restedBy channelFrom compensatedShown
+    rested-is l decay wait plain compensated uncapped =
+        λ i.
+        record {
+          «num_points» = c .«num_points»;
+          y2 = bands-stay nan (c .y2) (l .capture) i;
+          e2 = bands-stay nan (c .e2) (l .residual) i;
+          «low_render_energy» = bands-stay false (c .«low_render_energy») (l .low) i;
+          erle = (plain ∙ ends-are (c .erle) (λ k. getD (c .erle) k nan) (l .plain) (λ k h inner. refl)) i;
+          «erle_unbounded» = (uncapped ∙ ends-are (c .«erle_unbounded») (λ k. getD (c .«erle_unbounded») k nan) (l .uncapped) (λ k h inner. refl)) i;
+          «erle_onset_compensated» = (compensated ∙ compensated-all decay) i;
+          «erle_onsets» = onsets-all l i;
+          «coming_onset» = waits-all wait i;
+          «hold_counters» = hold-all i;
+        }
+
+-- ---- the definition
 
 module _ (s : SubbandSettings) (b : Block) (c : SubbandChannel) where
   -- what onset detection has of a band after learning, before its hold falls
   unfoldable pub onsetLearned : ℕ → Onset
   onsetLearned k =
       let held = onsetAt c k in
-      cond (s .«onset_detection» && innerBand k)
-      (cond (isNew s b c k) (onsetLearnt (s .min) (maxAt s b c k) (ratio (heard s b c k)) (heard s b c k .low) held) held)
+      cond (s .«onset_detection» && isNew s b c k)
+      (onsetLearnt (s .min) (maxAt s b c k) (newRatio s b c k) (sumsAfter s b c k .low) held)
       held
 
   -- a record that has learnt what the block brought, band by band
   pub record Learned (r : SubbandChannel) : Type 0 where
-    pub long : Long r
-    pub plain : (k : ℕ) → k < 65 → innerBand k ≡ true → getD (r .erle) k nan ≡ coreAfter s b c k .plain
-    pub uncapped : (k : ℕ) → k < 65 → innerBand k ≡ true → getD (r .«erle_unbounded») k nan ≡ coreAfter s b c k .uncapped
-    pub compensated : (k : ℕ) → k < 65 → getD (r .«erle_onset_compensated») k nan ≡ onsetLearned k .compensated
-    pub onset : (k : ℕ) → k < 65 → getD (r .«erle_onsets») k nan ≡ onsetLearned k .onset
-    pub waits : (k : ℕ) → k < 65 → getD (r .«coming_onset») k false ≡ onsetLearned k .waits
-    pub hold : (k : ℕ) → k < 65 → getD (r .«hold_counters») k (pos 0) ≡ onsetLearned k .hold
-    pub capture : (k : ℕ) → k < 65 → getD (r .y2) k nan ≡ coreAfter s b c k .capture
-    pub residual : (k : ℕ) → k < 65 → getD (r .e2) k nan ≡ coreAfter s b c k .residual
-    pub low : (k : ℕ) → k < 65 → getD (r .«low_render_energy») k false ≡ coreAfter s b c k .low
-    pub points : r .«num_points» ≡ cond (b .converged) (pointsWith (c .«num_points»)) (c .«num_points»)
-
-  -- then the hold falls, where onset detection is on
-  onset-after :
-      (k : ℕ) (t : Bool) → s .«onset_detection» && innerBand k ≡ t
-      → onsetAfter s b c k ≡ cond t (oneBlockLess (s .min) (onsetLearned k)) (onsetLearned k)
-  unfolding onsetAfter onsetLearned
-  onset-after k true e = rw e
-  onset-after k false e = rw e
+    pub points : r .«num_points» ≡ pointsAfter s b c
+    pub sums : (k : ℕ) → k < 65 → sumsAt r k ≡ sumsAfter s b c k
+    pub streams : (k : ℕ) → k < 65 → streamsAt r k ≡ streamsAfter s b c k
+    pub onset : (k : ℕ) → k < 65 → onsetAt r k ≡ onsetLearned k
 
   module _ (r : SubbandChannel) (m : Learned r) where
-    -- a band of 1 to 63, with onset detection on
-    module _ (on : s .«onset_detection» ≡ true) (k : ℕ) (h : k < 65) (e : innerBand k ≡ true) where
-      less : oneBlockLess (s .min) (onsetLearned k) ≡ onsetAfter s b c k
-      less = sym (onset-after k true (simp (on, e)))
-
-      hold-less : getD (holdsLess (r .«hold_counters»)) k (pos 0) ≡ holdLess (onsetLearned k .hold)
-      unfolding holdsLess
-      hold-less =
-          getD-tab 65 (λ j. cond (innerBand j) (holdLess (getD (r .«hold_counters») j (pos 0))) (getD (r .«hold_counters») j (pos 0))) k (pos 0) h
-          ∙ ap (λ (t : Bool). cond t (holdLess (getD (r .«hold_counters») k (pos 0))) (getD (r .«hold_counters») k (pos 0))) e
-          ∙ ap holdLess (m .hold k h)
-
-      hold-on : getD (holdsLess (r .«hold_counters»)) k (pos 0) ≡ onsetAfter s b c k .hold
-      hold-on = hold-less ∙ less-hold (s .min) (onsetLearned k) ∙ ap (λ (o : Onset). o .hold) less
-
-      compensated-on :
-          getD (compensatedsBeside (s .min) (holdsLess (r .«hold_counters»)) (r .«erle_onsets») (r .«erle_onset_compensated»)) k nan
-          ≡ onsetAfter s b c k .compensated
-      unfolding compensatedsBeside
-      compensated-on =
-          getD-tab 65
-          (λ j.
-          cond (innerBand j)
-          (compensatedBeside (s .min) (getD (holdsLess (r .«hold_counters»)) j (pos 0)) (getD (r .«erle_onsets») j nan) (getD (r .«erle_onset_compensated») j nan))
-          (getD (r .«erle_onset_compensated») j nan)) k nan h
-          ∙ rw (e, hold-less, m .onset k h, m .compensated k h) (less-compensated (s .min) (onsetLearned k))
-          ∙ ap (λ (o : Onset). o .compensated) less
-
-      waits-on : getD (waitsBeside (holdsLess (r .«hold_counters»)) (r .«coming_onset»)) k false ≡ onsetAfter s b c k .waits
-      unfolding waitsBeside
-      waits-on =
-          getD-tab 65
-          (λ j. cond (innerBand j) (waitBeside (getD (holdsLess (r .«hold_counters»)) j (pos 0)) (getD (r .«coming_onset») j false)) (getD (r .«coming_onset») j false)) k false h
-          ∙ rw (e, hold-less, m .waits k h) (less-waits (s .min) (onsetLearned k))
-          ∙ ap (λ (o : Onset). o .waits) less
-
-    -- bands 0 and 64, and all with onset detection off
-    module _ (k : ℕ) (e : s .«onset_detection» && innerBand k ≡ false) where
-      stays : onsetLearned k ≡ onsetAfter s b c k
-      stays = sym (onset-after k false e)
-
-    -- holds and waiting of all bands, and the compensated values of bands 1 to 63
-    holds-all :
-        (on : Bool) → s .«onset_detection» ≡ on
-        → cond on (holdsLess (r .«hold_counters»)) (r .«hold_counters») ≡ tab 65 (λ k. onsetAfter s b c k .hold)
-    unfolding holdsLess
-    holds-all true on =
-        tab-is 65 (pos 0) _ (holdsLess (r .«hold_counters»)) (length-tab 65 _)
-        (λ k h.
-        both k h (innerBand k) refl)
+    -- then the hold falls
+    onset-rested : (k : ℕ) → k < 65 → restedOnset s r k ≡ onsetAfter s b c k
+    unfolding restedOnset onsetAfter onsetLearned
+    onset-rested k h =
+        rw (m .onset k h)
+        (go (s .«onset_detection») (innerBand k) (isSixth s b c) (hasRatio (sumsAfter s b c k .residual)))
       where
-        both : (k : ℕ) → k < 65 → (t : Bool) → innerBand k ≡ t → getD (holdsLess (r .«hold_counters»)) k (pos 0) ≡ onsetAfter s b c k .hold
-        both k h true e = hold-on on k h e
-        both k h false e =
-            getD-tab 65 (λ j. cond (innerBand j) (holdLess (getD (r .«hold_counters») j (pos 0))) (getD (r .«hold_counters») j (pos 0))) k (pos 0) h
-            ∙ rw e (m .hold k h)
-            ∙ ap (λ (o : Onset). o .hold) (stays k (simp (e, and-false)))
-    holds-all false off =
-        tab-is 65 (pos 0) _ (r .«hold_counters») (m .long .hold)
-        (λ k h. m .hold k h ∙ ap (λ (o : Onset). o .hold) (stays k (simp off)))
+        held : Onset
+        held = onsetAt c k
 
-    waits-all :
-        (on : Bool) → s .«onset_detection» ≡ on
-        → cond on (waitsBeside (holdsLess (r .«hold_counters»)) (r .«coming_onset»)) (r .«coming_onset») ≡ tab 65 (λ k. onsetAfter s b c k .waits)
-    unfolding waitsBeside
-    waits-all true on =
-        tab-is 65 false _ (waitsBeside (holdsLess (r .«hold_counters»)) (r .«coming_onset»)) (length-tab 65 _)
-        (λ k h.
-        both k h (innerBand k) refl)
-      where
-        both :
-            (k : ℕ) → k < 65 → (t : Bool) → innerBand k ≡ t
-            → getD (waitsBeside (holdsLess (r .«hold_counters»)) (r .«coming_onset»)) k false ≡ onsetAfter s b c k .waits
-        both k h true e = waits-on on k h e
-        both k h false e =
-            getD-tab 65
-            (λ j. cond (innerBand j) (waitBeside (getD (holdsLess (r .«hold_counters»)) j (pos 0)) (getD (r .«coming_onset») j false)) (getD (r .«coming_onset») j false)) k false h
-            ∙ rw e (m .waits k h)
-            ∙ ap (λ (o : Onset). o .waits) (stays k (simp (e, and-false)))
-    waits-all false off =
-        tab-is 65 false _ (r .«coming_onset») (m .long .waits)
-        (λ k h. m .waits k h ∙ ap (λ (o : Onset). o .waits) (stays k (simp off)))
+        new : Onset
+        new = onsetLearnt (s .min) (maxAt s b c k) (newRatio s b c k) (sumsAfter s b c k .low) held
 
-    compensated-all :
-        (on : Bool) → s .«onset_detection» ≡ on
-        → endsCopied (cond on (compensatedsBeside (s .min) (holdsLess (r .«hold_counters»)) (r .«erle_onsets») (r .«erle_onset_compensated»)) (r .«erle_onset_compensated»))
-        ≡ tab 65 (λ k. onsetAfter s b c (shownBand k) .compensated)
-    unfolding compensatedsBeside
-    compensated-all true on = ends-are _ (λ k. onsetAfter s b c k .compensated) (length-tab 65 _) (compensated-on on)
-    compensated-all false off =
-        ends-are _ (λ k. onsetAfter s b c k .compensated) (m .long .compensated)
-        (λ k h e. m .compensated k h ∙ ap (λ (o : Onset). o .compensated) (stays k (simp off)))
+        go :
+            (on inner six has : Bool)
+            → cond (on && inner) (oneBlockLess (s .min) (cond (on && (six && (inner && has))) new held)) (cond (on && (six && (inner && has))) new held)
+            ≡ cond (on && inner) (oneBlockLess (s .min) (cond (six && (inner && has)) new held)) held
+        go true true six has = refl
+        go true false true has = refl
+        go true false false has = refl
+        go false inner six has = refl
 
-    onset-stays : (k : ℕ) (t : Bool) → s .«onset_detection» && innerBand k ≡ t → onsetLearned k .onset ≡ onsetAfter s b c k .onset
-    unfolding oneBlockLess
-    onset-stays k true e = ap (λ (o : Onset). o .onset) (sym (onset-after k true e))
-    onset-stays k false e = ap (λ (o : Onset). o .onset) (sym (onset-after k false e))
-
-    -- the whole record
     pub after-learned : restedBy s r ≡ channelAfter s b c
-    unfolding restedBy channelAfter
+    unfolding restedBy channelAfter compensatedShown
     after-learned =
+        same-parts (m .points) (m .sums) (λ k h. m .streams (shownBand k) (shown-below k h))
+        (λ k h.
         λ i.
         record {
-          erle = ends-are (r .erle) (λ k. coreAfter s b c k .plain) (m .long .plain) (m .plain) i;
-          «erle_onset_compensated» = compensated-all (s .«onset_detection») refl i;
-          «erle_unbounded» = ends-are (r .«erle_unbounded») (λ k. coreAfter s b c k .uncapped) (m .long .uncapped) (m .uncapped) i;
-          «erle_onsets» =
-              tab-is 65 nan (λ k. onsetAfter s b c k .onset) (r .«erle_onsets») (m .long .onset)
-              (λ k h. m .onset k h ∙ onset-stays k (s .«onset_detection» && innerBand k) refl) i;
-          «coming_onset» = waits-all (s .«onset_detection») refl i;
-          «hold_counters» = holds-all (s .«onset_detection») refl i;
-          y2 = tab-is 65 nan (λ k. coreAfter s b c k .capture) (r .y2) (m .long .capture) (m .capture) i;
-          e2 = tab-is 65 nan (λ k. coreAfter s b c k .residual) (r .e2) (m .long .residual) (m .residual) i;
-          «low_render_energy» = tab-is 65 false (λ k. coreAfter s b c k .low) (r .«low_render_energy») (m .long .low) (m .low) i;
-          «num_points» = m .points i;
-        }
+          compensated = onset-rested (shownBand k) (shown-below k h) i .compensated;
+          onset = onset-rested k h i .onset;
+          waits = onset-rested k h i .waits;
+          hold = onset-rested k h i .hold;
+        })
 
 -- ---- a channel that stands unconverged learns nothing
 
-module _ (s : SubbandSettings) (c : SubbandChannel) (l : Long c) where
-  same-onset : (k : ℕ) → onsetAt c k ≡ onsetLearned s quiet c k
-  unfolding onsetLearned
-  same-onset k = go (s .«onset_detection» && innerBand k)
-    where
-      go : (t : Bool) → onsetAt c k ≡ cond t (onsetAt c k) (onsetAt c k)
-      go true = refl
-      go false = refl
-
-  quiet-learned : Learned s quiet c c
-  unfolding coreAfter
-  quiet-learned =
-      record {
-        long = l;
-        plain = λ k h e. refl;
-        uncapped = λ k h e. refl;
-        compensated = λ k h. ap (λ (o : Onset). o .compensated) (same-onset k);
-        onset = λ k h. ap (λ (o : Onset). o .onset) (same-onset k);
-        waits = λ k h. ap (λ (o : Onset). o .waits) (same-onset k);
-        hold = λ k h. ap (λ (o : Onset). o .hold) (same-onset k);
-        capture = λ k h. refl;
-        residual = λ k h. refl;
-        low = λ k h. refl;
-        points = refl;
-      }
-
-  pub after-quiet : restedBy s c ≡ channelAfter s quiet c
-  after-quiet = after-learned s quiet c c quiet-learned
+pub after-quiet : (s : SubbandSettings) (c : SubbandChannel) → restedBy s c ≡ channelAfter s quiet c
+unfolding sumsAfter streamsAfter onsetLearned
+after-quiet s c =
+    after-learned s quiet c c
+    (record { points = refl; sums = λ k h. refl; streams = λ k h. refl; onset = λ k h. rw (and-false (s .«onset_detection»)) })
 
 -- ---- a converged channel
 
-module _ (s : SubbandSettings) (x y e : List Float) (c : SubbandChannel) (l : Long c) where
+module _ (s : SubbandSettings) (x y e : List Float) (c : SubbandChannel) where
   block : Block
   block = record { converged = true; render = x; capture = y; residual = e }
 
-  -- whether the sums begin anew
-  anew : Bool
-  anew = eqb (c .«num_points») allPoints
-
-  heard-long : Long (heardBy x y e c)
-  unfolding heardBy sumsWith lowsWith
-  heard-long =
-      record {
-        plain = l .plain;
-        compensated = l .compensated;
-        uncapped = l .uncapped;
-        onset = l .onset;
-        waits = l .waits;
-        hold = l .hold;
-        capture = length-tab 65 _;
-        residual = length-tab 65 _;
-        low = length-tab 65 _;
-      }
-
-  -- what the sums are in a band
   module _ (k : ℕ) (h : k < 65) where
-    heard-capture : getD (heardBy x y e c .y2) k nan ≡ heard s block c k .capture
-    unfolding heardBy sumsWith anew block
-    heard-capture =
-        getD-tab 65 (λ j. sumWith anew (getD (c .y2) j nan) (getD y j nan)) k nan h
-        ∙ added-capture (getD x k nan) (getD y k nan) (getD e k nan) (coreAt c k) anew
+    heard-sums : sumsAt (heardBy x y e c) k ≡ sumsAfter s block c k
+    unfolding heardBy heardSums sumsAfter block
+    heard-sums = sums-from (pointsWith (c .«num_points»)) (heardSums x y e c) (streamsAt c) (onsetAt c) k h
 
-    heard-residual : getD (heardBy x y e c .e2) k nan ≡ heard s block c k .residual
-    unfolding heardBy sumsWith anew block
-    heard-residual =
-        getD-tab 65 (λ j. sumWith anew (getD (c .e2) j nan) (getD e j nan)) k nan h
-        ∙ added-residual (getD x k nan) (getD y k nan) (getD e k nan) (coreAt c k) anew
+    heard-streams : streamsAt (heardBy x y e c) k ≡ streamsAt c k
+    unfolding heardBy
+    heard-streams = streams-from (pointsWith (c .«num_points»)) (heardSums x y e c) (streamsAt c) (onsetAt c) k h
 
-    heard-low : getD (heardBy x y e c .«low_render_energy») k false ≡ heard s block c k .low
-    unfolding heardBy lowsWith anew block
-    heard-low =
-        getD-tab 65 (λ j. lowWith anew (getD (c .«low_render_energy») j false) (getD x j nan)) k false h
-        ∙ added-low (getD x k nan) (getD y k nan) (getD e k nan) (coreAt c k) anew
+    heard-onset : onsetAt (heardBy x y e c) k ≡ onsetAt c k
+    unfolding heardBy
+    heard-onset = onset-from (pointsWith (c .«num_points»)) (heardSums x y e c) (streamsAt c) (onsetAt c) k h
 
   -- before the sixth point no ratio is new
-  module _ (few : eqb (pointsWith (c .«num_points»)) allPoints ≡ false) where
-    none-new : (k : ℕ) → isNew s block c k ≡ false
-    unfolding block
-    none-new k = simp few
+  few-learned : eqb (pointsWith (c .«num_points»)) allPoints ≡ false → Learned s block c (heardBy x y e c)
+  unfolding heardBy channelFrom streamsAfter onsetLearned block
+  few-learned few =
+      record {
+        points = refl;
+        sums = heard-sums;
+        streams = λ k h. heard-streams k h ∙ rw few;
+        onset = λ k h. heard-onset k h ∙ rw (few, and-false (s .«onset_detection»));
+      }
 
-    core-heard : (k : ℕ) → heard s block c k ≡ coreAfter s block c k
-    unfolding coreAfter
-    core-heard k = rw (none-new k)
+  -- on the sixth the ratios are, in bands 1 to 63 with a residual sum above 0
+  module _ (six : eqb (pointsWith (c .«num_points»)) allPoints ≡ true) (k : ℕ) (h : k < 65) where
+    six-streams : streamsLearnt s (heardBy x y e c) k ≡ streamsAfter s block c k
+    unfolding streamsLearnt streamsAfter block
+    six-streams =
+        (λ i.
+        let sums = heard-sums k h i in
+        let held = heard-streams k h i in
+        cond (innerBand k && hasRatio (sums .residual))
+        (learnt (s .min) (maxAt s block c k) (ratio (sums .capture) (sums .residual)) (sums .low) held)
+        held)
+        ∙ rw six
 
-    onset-held : (k : ℕ) → onsetAt c k ≡ onsetLearned s block c k
-    unfolding onsetLearned
-    onset-held k = rw (none-new k) (go (s .«onset_detection» && innerBand k))
-      where
-        go : (t : Bool) → onsetAt c k ≡ cond t (onsetAt c k) (onsetAt c k)
-        go true = refl
-        go false = refl
+    six-onset : onsetsLearnt s (heardBy x y e c) k ≡ onsetLearned s block c k
+    unfolding onsetsLearnt onsetLearned block
+    six-onset =
+        (λ i.
+        let sums = heard-sums k h i in
+        let held = heard-onset k h i in
+        cond (s .«onset_detection» && (innerBand k && hasRatio (sums .residual)))
+        (onsetLearnt (s .min) (maxAt s block c k) (ratio (sums .capture) (sums .residual)) (sums .low) held)
+        held)
+        ∙ rw six
 
-    heard-learned : Learned s block c (heardBy x y e c)
-    unfolding heardBy block anew
-    heard-learned =
-        record {
-          long = heard-long;
-          plain =
-              λ k h i.
-              added-plain (getD x k nan) (getD y k nan) (getD e k nan) (coreAt c k) anew ∙ ap (λ (d : Core). d .plain) (core-heard k);
-          uncapped =
-              λ k h i.
-              added-uncapped (getD x k nan) (getD y k nan) (getD e k nan) (coreAt c k) anew ∙ ap (λ (d : Core). d .uncapped) (core-heard k);
-          compensated = λ k h. ap (λ (o : Onset). o .compensated) (onset-held k);
-          onset = λ k h. ap (λ (o : Onset). o .onset) (onset-held k);
-          waits = λ k h. ap (λ (o : Onset). o .waits) (onset-held k);
-          hold = λ k h. ap (λ (o : Onset). o .hold) (onset-held k);
-          capture = λ k h. heard-capture k h ∙ ap (λ (d : Core). d .capture) (core-heard k);
-          residual = λ k h. heard-residual k h ∙ ap (λ (d : Core). d .residual) (core-heard k);
-          low = λ k h. heard-low k h ∙ ap (λ (d : Core). d .low) (core-heard k);
-          points = refl;
-        }
+  six-learned : eqb (pointsWith (c .«num_points»)) allPoints ≡ true → Learned s block c (learntBy s (heardBy x y e c))
+  unfolding learntBy channelFrom heardBy block
+  six-learned six =
+      let r = heardBy x y e c in
+      record {
+        points = refl;
+        sums = λ k h. sums-from (r .«num_points») (sumsAt r) (streamsLearnt s r) (onsetsLearnt s r) k h ∙ heard-sums k h;
+        streams = λ k h. streams-from (r .«num_points») (sumsAt r) (streamsLearnt s r) (onsetsLearnt s r) k h ∙ six-streams six k h;
+        onset = λ k h. onset-from (r .«num_points») (sumsAt r) (streamsLearnt s r) (onsetsLearnt s r) k h ∙ six-onset six k h;
+      }
 
-  -- on the sixth point it is, in a band of 1 to 63 with a residual sum above 0
-  module _ (six : eqb (pointsWith (c .«num_points»)) allPoints ≡ true) where
-    new-inner : (k : ℕ) → innerBand k ≡ true → isNew s block c k ≡ lt zero32 (heard s block c k .residual)
-    unfolding block
-    new-inner k i = simp (six, i)
-
-    -- a stream's value beside the sums of its band
-    streamOf : Float → ℕ → Float → Float
-    streamOf max k old = streamBy (s .min) max (ratio (heard s block c k)) (heard s block c k .residual) (heard s block c k .low) old
-
-    stream-at :
-        (maxL maxH : Float) (olds : List Float) (k : ℕ) → k < 65
-        → getD (streamsBy (s .min) maxL maxH (ratiosOf (heardBy x y e c .y2) (heardBy x y e c .e2)) (heardBy x y e c .e2) (heardBy x y e c .«low_render_energy») olds) k nan
-        ≡ cond (innerBand k) (streamOf (maxErle maxL maxH k) k (getD olds k nan)) (getD olds k nan)
-    unfolding streamsBy ratiosOf streamOf
-    stream-at maxL maxH olds k h =
-        getD-tab 65 _ k nan h
-        ∙ rw (getD-tab 65 (λ j. div binary32 (getD (heardBy x y e c .y2) j nan) (getD (heardBy x y e c .e2) j nan)) k nan h, heard-capture k h, heard-residual k h, heard-low k h) refl
-
-    core-new : (k : ℕ) → innerBand k ≡ true → cond (lt zero32 (heard s block c k .residual)) (learnt (s .min) (maxAt s block c k) (heard s block c k)) (heard s block c k) ≡ coreAfter s block c k
-    unfolding coreAfter
-    core-new k i = rw (new-inner k i)
-
-    plain-learnt :
-        (k : ℕ) → k < 65 → innerBand k ≡ true
-        → getD (streamsLearntBy s (heardBy x y e c) .erle) k nan ≡ coreAfter s block c k .plain
-    unfolding streamsLearntBy heardBy block anew streamOf
-    plain-learnt k h i =
-        stream-at (s .«max_l») (s .«max_h») (c .erle) k h
-        ∙ ap (λ (t : Bool). cond t (streamOf (maxAt s block c k) k (getD (c .erle) k nan)) (getD (c .erle) k nan)) i
-        ∙ ap (streamOf (maxAt s block c k) k) (added-plain (getD x k nan) (getD y k nan) (getD e k nan) (coreAt c k) anew)
-        ∙ (stream-plain (s .min) (maxAt s block c k) (heard s block c k) (lt zero32 (heard s block c k .residual)) refl)
-        ∙ ap (λ (d : Core). d .plain) (core-new k i)
-
-    same-maxima : (v : Float) (k : ℕ) → maxErle v v k ≡ v
-    unfolding maxErle
-    same-maxima v k = go (ltb k 32)
-      where
-        go : (t : Bool) → cond t v v ≡ v
-        go true = refl
-        go false = refl
-
-    uncapped-learnt :
-        (k : ℕ) → k < 65 → innerBand k ≡ true
-        → getD (streamsLearntBy s (heardBy x y e c) .«erle_unbounded») k nan ≡ coreAfter s block c k .uncapped
-    unfolding streamsLearntBy heardBy block anew streamOf
-    uncapped-learnt k h i =
-        stream-at greatestErle greatestErle (c .«erle_unbounded») k h
-        ∙ ap (λ (t : Bool). cond t (streamOf (maxErle greatestErle greatestErle k) k (getD (c .«erle_unbounded») k nan)) (getD (c .«erle_unbounded») k nan)) i
-        ∙ ap (λ (v : Float). streamOf v k (getD (c .«erle_unbounded») k nan)) (same-maxima greatestErle k)
-        ∙ ap (streamOf greatestErle k) (added-uncapped (getD x k nan) (getD y k nan) (getD e k nan) (coreAt c k) anew)
-        ∙ (stream-uncapped (s .min) (maxAt s block c k) (heard s block c k) (lt zero32 (heard s block c k .residual)) refl)
-        ∙ ap (λ (d : Core). d .uncapped) (core-new k i)
-
-    -- the sums stay, new ratio or not
-    capture-stays : (k : ℕ) → k < 65 → getD (heardBy x y e c .y2) k nan ≡ coreAfter s block c k .capture
-    unfolding coreAfter
-    capture-stays k h = heard-capture k h ∙ learnt-capture (s .min) (maxAt s block c k) (heard s block c k) (isNew s block c k)
-
-    residual-stays : (k : ℕ) → k < 65 → getD (heardBy x y e c .e2) k nan ≡ coreAfter s block c k .residual
-    unfolding coreAfter
-    residual-stays k h = heard-residual k h ∙ learnt-residual (s .min) (maxAt s block c k) (heard s block c k) (isNew s block c k)
-
-    low-stays : (k : ℕ) → k < 65 → getD (heardBy x y e c .«low_render_energy») k false ≡ coreAfter s block c k .low
-    unfolding coreAfter
-    low-stays k h = heard-low k h ∙ learnt-low (s .min) (maxAt s block c k) (heard s block c k) (isNew s block c k)
-
-    -- what onset detection learns in a band
-    onsetOf : ℕ → Onset
-    onsetOf k = onsetLearnt (s .min) (maxAt s block c k) (ratio (heard s block c k)) (heard s block c k .low) (onsetAt c k)
-
-    -- the record with all of it learnt
-    onsetsBy : SubbandChannel
-    onsetsBy =
-        onsetLearntBy (limitsOf s) (ratiosOf (heardBy x y e c .y2) (heardBy x y e c .e2)) (heardBy x y e c .e2) (heardBy x y e c .«low_render_energy»)
-        (streamsLearntBy s (heardBy x y e c))
-
-    onset-new :
-        s .«onset_detection» ≡ true → (k : ℕ) → innerBand k ≡ true
-        → cond (lt zero32 (heard s block c k .residual)) (onsetOf k) (onsetAt c k) ≡ onsetLearned s block c k
-    unfolding onsetLearned onsetOf
-    onset-new on k i = rw (new-inner k i, on, i)
-
-    onset-kept : (k : ℕ) → s .«onset_detection» && innerBand k ≡ false → onsetAt c k ≡ onsetLearned s block c k
-    unfolding onsetLearned
-    onset-kept k out = rw out
-
-    -- with onset detection on: what a list shows of a band whose entry was changed in bands 1 to 63
-    module _ (on : s .«onset_detection» ≡ true) (k : ℕ) (h : k < 65) where
-      by-band :
-          {A : Type 0} (f : Onset → A) (got new : A)
-          → got ≡ cond (innerBand k) new (f (onsetAt c k))
-          → new ≡ f (cond (lt zero32 (heard s block c k .residual)) (onsetOf k) (onsetAt c k))
-          → got ≡ f (onsetLearned s block c k)
-      by-band f got new g n = g ∙ go (innerBand k) refl
-        where
-          go : (t : Bool) → innerBand k ≡ t → cond t new (f (onsetAt c k)) ≡ f (onsetLearned s block c k)
-          go true i = n ∙ ap f (onset-new on k i)
-          go false i = ap f (onset-kept k (simp (i, and-false)))
-
-      compensated-by :
-          getD (onsetsBy .«erle_onset_compensated») k nan ≡ onsetLearned s block c k .compensated
-      unfolding onsetsBy onsetLearntBy streamsLearntBy heardBy streamOf onsetOf
-      compensated-by =
-          by-band (λ (o : Onset). o .compensated) _ _ (stream-at (s .«max_l») (s .«max_h») (c .«erle_onset_compensated») k h)
-          (stream-compensated (s .min) (maxAt s block c k) (ratio (heard s block c k)) (heard s block c k .residual) (heard s block c k .low) (onsetAt c k)
-          (lt zero32 (heard s block c k .residual)) refl)
-
-      waits-by : getD (onsetsBy .«coming_onset») k false ≡ onsetLearned s block c k .waits
-      unfolding onsetsBy onsetLearntBy streamsLearntBy heardBy waitsBy onsetOf
-      waits-by =
-          by-band (λ (o : Onset). o .waits) _ _ (getD-tab 65 _ k false h ∙ rw (heard-residual k h, heard-low k h) refl)
-          (wait-learnt (s .min) (maxAt s block c k) (ratio (heard s block c k)) (heard s block c k .residual) (heard s block c k .low) (onsetAt c k)
-          (lt zero32 (heard s block c k .residual)) refl (heard s block c k .low) refl)
-
-      hold-by : getD (onsetsBy .«hold_counters») k (pos 0) ≡ onsetLearned s block c k .hold
-      unfolding onsetsBy onsetLearntBy streamsLearntBy heardBy holdsBy onsetOf
-      hold-by =
-          by-band (λ (o : Onset). o .hold) _ _ (getD-tab 65 _ k (pos 0) h ∙ rw (heard-residual k h, heard-low k h) refl)
-          (hold-learnt (s .min) (maxAt s block c k) (ratio (heard s block c k)) (heard s block c k .residual) (heard s block c k .low) (onsetAt c k)
-          (lt zero32 (heard s block c k .residual)) refl (heard s block c k .low) refl)
-
-    onset-same : (k : ℕ) → getD (c .«erle_onsets») k nan ≡ onsetLearned s block c k .onset
-    unfolding onsetLearned onsetLearnt
-    onset-same k = go (s .«onset_detection» && innerBand k) (isNew s block c k)
-      where
-        go :
-            (a n : Bool)
-            → getD (c .«erle_onsets») k nan
-            ≡ cond a (cond n (onsetLearnt (s .min) (maxAt s block c k) (ratio (heard s block c k)) (heard s block c k .low) (onsetAt c k)) (onsetAt c k)) (onsetAt c k) .onset
-        go true true = refl
-        go true false = refl
-        go false n = refl
-
-    -- both ways, by onset detection
-    learnt-on : s .«onset_detection» ≡ true → Learned s block c onsetsBy
-    unfolding onsetsBy onsetLearntBy streamsLearntBy heardBy streamsBy waitsBy holdsBy block
-    learnt-on on =
-        record {
-          long =
-              record {
-                plain = length-tab 65 _;
-                compensated = length-tab 65 _;
-                uncapped = length-tab 65 _;
-                onset = l .onset;
-                waits = length-tab 65 _;
-                hold = length-tab 65 _;
-                capture = heard-long .capture;
-                residual = heard-long .residual;
-                low = heard-long .low;
-              };
-          plain = plain-learnt;
-          uncapped = uncapped-learnt;
-          compensated = compensated-by on;
-          onset = λ k h. onset-same k;
-          waits = waits-by on;
-          hold = hold-by on;
-          capture = capture-stays;
-          residual = residual-stays;
-          low = low-stays;
-          points = refl;
-        }
-
-    learnt-off : s .«onset_detection» ≡ false → Learned s block c (streamsLearntBy s (heardBy x y e c))
-    unfolding streamsLearntBy heardBy streamsBy block
-    learnt-off off =
-        record {
-          long =
-              record {
-                plain = length-tab 65 _;
-                compensated = l .compensated;
-                uncapped = length-tab 65 _;
-                onset = l .onset;
-                waits = l .waits;
-                hold = l .hold;
-                capture = heard-long .capture;
-                residual = heard-long .residual;
-                low = heard-long .low;
-              };
-          plain = plain-learnt;
-          uncapped = uncapped-learnt;
-          compensated = λ k h. ap (λ (o : Onset). o .compensated) (onset-kept k (simp off));
-          onset = λ k h. onset-same k;
-          waits = λ k h. ap (λ (o : Onset). o .waits) (onset-kept k (simp off));
-          hold = λ k h. ap (λ (o : Onset). o .hold) (onset-kept k (simp off));
-          capture = capture-stays;
-          residual = residual-stays;
-          low = low-stays;
-          points = refl;
-        }
-
-    learnt-learned : Learned s block c (learntBy s (heardBy x y e c))
-    unfolding learntBy onsetsBy
-    learnt-learned = go (s .«onset_detection») refl
-      where
-        go : (on : Bool) → s .«onset_detection» ≡ on → Learned s block c (cond on onsetsBy (streamsLearntBy s (heardBy x y e c)))
-        go true on = learnt-on on
-        go false off = learnt-off off
-
-  converged-learned : Learned s block c (convergedBy s x y e c)
-  unfolding convergedBy heardBy
+  converged-learned : Learned s block c (convergedBy x y e c s)
+  unfolding convergedBy
   converged-learned = go (eqb (pointsWith (c .«num_points»)) allPoints) refl
     where
       go :
           (t : Bool) → eqb (pointsWith (c .«num_points»)) allPoints ≡ t
           → Learned s block c (cond t (learntBy s (heardBy x y e c)) (heardBy x y e c))
-      go true six = learnt-learned six
-      go false few = heard-learned few
+      go true six = six-learned six
+      go false few = few-learned few
 
-  pub converged-long : Long (convergedBy s x y e c)
-  converged-long = converged-learned .long
+  pub converged-long : Long (convergedBy x y e c s)
+  unfolding convergedBy learntBy heardBy
+  converged-long = cond-has Long (eqb (pointsWith (c .«num_points»)) allPoints) (λ six. long-from _ _ _ _) (λ few. long-from _ _ _ _)
 
-  pub after-converged :
-      restedBy s (convergedBy s x y e c)
-      ≡ channelAfter s (record { converged = true; render = x; capture = y; residual = e }) c
+  pub after-converged : restedBy s (convergedBy x y e c s) ≡ channelAfter s (record { converged = true; render = x; capture = y; residual = e }) c
   unfolding block
-  after-converged = after-learned s block c (convergedBy s x y e c) converged-learned
+  after-converged = after-learned s block c (convergedBy x y e c s) converged-learned

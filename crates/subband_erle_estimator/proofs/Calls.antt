@@ -2,22 +2,17 @@
 use mathlib.Core.Path.{_≡_, refl, sym, subst}
 use mathlib.Core.Bool.{Bool, true, _&&_}
 use mathlib.Core.List.{List}
-use Prim.Native.Nat.{ℕ, _+_, _*_, _^_, _≤_, _<_}
+use Prim.Native.Nat.{ℕ, _≤_, _<_}
 use native.Mathlib.Omega.{arith}
 use borrow.Author.Tests.{eqb-true}
-use lib.Dec.{ltb, eqb}
-use lib.Ieee.{Float, nan, le}
-use lib.ListN.{length, getD}
-use lib.Seq.{getD-take, getD-drop}
-use Rattle.aec3_common.specs.Binary32.{one32, greatestValue, within, valuesOk}
+use lib.Dec.{T, ltb, eqb}
+use lib.Ieee.{Float, binary32, le, fits}
+use Rattle.aec3_common.specs.Binary32.{one32}
 use Rattle.aec3_common.specs.Calls.{Call, update, reset}
 use Rattle.aec3_common.specs.Refusal.{accepted}
 use Rattle.aec3_common.specs.Settings.{greatestErle}
-use Rattle.aec3_common.specs.Spectra.{part}
 use Rattle.aec3_common.proofs.Calls.{limits-passed, few-channels, update-ok, run-keeps}
 use Rattle.aec3_common.proofs.Choices.{and-left, and-right, each-of-four, cond-has}
-use Rattle.aec3_common.proofs.Every.{every-at}
-use Rattle.aec3_common.proofs.Numbers.{Value, value-within}
 use Rattle.aec3_common.proofs.Rounding.{holds}
 use Rattle.aec3_common.proofs.Tables.{getD-tab, getD-tab-first}
 use Rattle.filter_sections.specs.Subbands.{maxErle}
@@ -26,10 +21,18 @@ use Rattle.subband_erle_estimator.specs.declared.settings.SubbandSetting
 use Rattle.subband_erle_estimator.specs.declared.SubbandErleEstimator.{SubbandErleEstimator}
 use Rattle.subband_erle_estimator.specs.Channel.{fresh, channelAfter}
 use Rattle.subband_erle_estimator.specs.Subband.{settingsRefusal, stateOk, updateRefusal, stateRefusal, started, startAnswer, resetAnswer, noChannel, channelAt, blockOf, updated, updateAnswer}
-use Rattle.subband_erle_estimator.specs.Resting.{answer, run, InBinary32}
+use Rattle.subband_erle_estimator.specs.Resting.{answer, run}
+use Rattle.subband_erle_estimator.proofs.Sums.{block-ok}
 use Rattle.subband_erle_estimator.proofs.Channels.{AllInOrder, ChannelKept, fresh-kept, after-kept}
 
 -- ---- settings
+
+-- the three limits are values of binary32, each in its one form, as every f32 of the code is; without it a number could stand in two
+-- forms that are level and not the same
+pub record InBinary32 (settings : SubbandSettings) : Type 0 where
+  pub min : T (fits binary32 (settings .min))
+  pub «max_l» : T (fits binary32 (settings .«max_l»))
+  pub «max_h» : T (fits binary32 (settings .«max_h»))
 
 -- every band has a minimum and a maximum, and there are at most four channels
 pub record SettingsOk (g : SubbandSettings) : Type 0 where
@@ -91,15 +94,6 @@ module _ (g : SubbandSettings) (ok : SettingsOk g) where
 
 -- ---- an accepted update
 
--- the values that it lends one channel
-values-at :
-    (n : ℕ) (xs : List Float) → length xs ≡ n * 65 → valuesOk xs ≡ true
-    → (ch k : ℕ) → ch < n → k < 65 → Value (2 ^ 100) (getD (part xs ch) k nan)
-unfolding part
-values-at n xs long ok ch k h l =
-    rw (getD-take, getD-drop)
-    (value-within (getD xs (ch * 65 + k) nan) (every-at (within greatestValue) xs nan (ch * 65 + k) ok (omega arith)))
-
 module _ (g : SubbandSettings) (ok : SettingsOk g) where
   pub updated-kept :
       (s : SubbandErleEstimator) (channels : ℕ) (converged : List Bool) (render capture residual : List Float) → Kept g s
@@ -107,17 +101,11 @@ module _ (g : SubbandSettings) (ok : SettingsOk g) where
   unfolding updated updateRefusal
   updated-kept s channels converged render capture residual kept e =
       let given = rw (kept .settings) at (update-ok (stateOk s) (s .settings .«num_capture_channels») channels converged render capture residual e) in
-      let n = g .«num_capture_channels» in
       record {
         settings = kept .settings;
         channels = λ ch h.
             subst (ChannelKept g) (sym (updated-channel g ok s converged render capture residual kept ch h))
-            (after-kept g (blockOf converged render capture residual ch) (channelAt s ch) (ok .limits)
-            (record {
-              capture = λ k l. values-at n capture (given .longCapture) (given .captureOk) ch k h l;
-              residual = λ k l. values-at n residual (given .longResidual) (given .residualOk) ch k h l;
-            })
-            (kept .channels ch h));
+            (after-kept g (blockOf converged render capture residual ch) (channelAt s ch) (ok .limits) (block-ok given ch h) (kept .channels ch h));
       }
 
   answer-kept : (s : SubbandErleEstimator) (c : Call) → Kept g s → Kept g (answer s c .state)

@@ -1,27 +1,23 @@
 -- What a channel keeps over resets and updates.
-use mathlib.Core.Path.{_≡_, refl, sym, ap, _∙_}
+use mathlib.Core.Path.{_≡_, refl, sym, ap, _∙_, subst}
 use mathlib.Core.Bool.{Bool, true, false, cond, _&&_}
-use Prim.Native.Nat.{ℕ, suc, _^_, _≤_, _<_}
+use Prim.Native.Nat.{ℕ, _<_}
 use native.Mathlib.Omega.{arith}
-use borrow.Author.Tests.{eqb-true, eqb-false, lt-ltb, le-ltb}
-use lib.Dec.{ltb, eqb, lit<, lit≤}
-use lib.IntN.{pos}
-use lib.Ieee.{Float, nan}
-use lib.ListN.{getD}
-use Rattle.aec3_common.specs.Binary32.{zero32}
-use Rattle.aec3_common.specs.Lists.{tab}
+use borrow.Author.Tests.{eqb-true, lt-ltb, le-ltb}
+use lib.Dec.{ltb, eqb}
+use lib.Ieee.{Float}
 use Rattle.aec3_common.specs.Spectra.{innerBand, shownBand}
 use Rattle.aec3_common.proofs.Bands.{shown-inner, inner-shown, shown-below}
 use Rattle.aec3_common.proofs.Choices.{and-right, and-false, cond-has}
-use Rattle.aec3_common.proofs.Numbers.{Value, no-sum}
-use Rattle.aec3_common.proofs.Tables.{getD-tab}
+use Rattle.aec3_common.proofs.Rounding.{Signed}
 use Rattle.filter_sections.specs.Subbands.{maxErle}
-use Rattle.erle_bands.specs.Band.{emptied, added, hasRatio, Onset, onsetLearnt, oneBlockLess}
-use Rattle.erle_bands.proofs.Range.{InOrder, min-between, uncapped-in-order, CoreKept, emptied-kept, added-kept, ratio-signed, learnt-kept, OnsetKept, onset-learnt-kept, one-block-less-kept}
+use Rattle.erle_bands.specs.Band.{Sums, freshSums, hasRatio, Streams, freshStreams, Onset, freshOnset, onsetLearnt, oneBlockLess}
+use Rattle.erle_bands.proofs.Range.{InOrder, min-between, uncapped-in-order, ratio-signed, StreamsKept, learnt-kept, OnsetKept, onset-learnt-kept, one-block-less-kept}
 use Rattle.subband_erle_estimator.specs.declared.settings.SubbandSettings.{SubbandSettings}
 use Rattle.subband_erle_estimator.specs.declared.channel.SubbandChannel.{SubbandChannel}
-use Rattle.subband_erle_estimator.specs.Channel.{coreAt, onsetAt, Block, allPoints, pointsWith, fresh, heard, isNew, coreAfter, onsetAfter, channelAfter}
-use Rattle.subband_erle_estimator.proofs.Sums.{points-stay-few}
+use Rattle.subband_erle_estimator.specs.Channel.{streamsAt, onsetAt, channelFrom, compensatedShown, fresh, Block, pointsAfter, sumsAfter, isSixth, isNew, newRatio, streamsAfter, onsetAfter, channelAfter}
+use Rattle.subband_erle_estimator.proofs.Parts.{streams-from, onset-from}
+use Rattle.subband_erle_estimator.proofs.Sums.{ChannelSums, fresh-sums, BlockOk, sums-after, after-sums}
 
 -- ---- bands
 
@@ -39,72 +35,92 @@ max-shown l h k = ap (λ (t : Bool). cond t l h) (go (eqb k 0) refl (eqb k 64) r
     go false f true g = sym (le-ltb k 32 (omega (arith, eqb-true k 64 g)))
     go false f false g = refl
 
--- in a list of shown figures each band has the figure of the band that it shows
-shown-copied : (f : ℕ → Float) (k : ℕ) → k < 65
-    → getD (tab 65 (λ j. f (shownBand j))) k nan ≡ getD (tab 65 (λ j. f (shownBand j))) (shownBand k) nan
-shown-copied f k h =
-    getD-tab 65 (λ j. f (shownBand j)) k nan h
-    ∙ ap f (sym (inner-shown (shownBand k) (shown-inner k h)))
-    ∙ sym (getD-tab 65 (λ j. f (shownBand j)) (shownBand k) nan (shown-below k h))
-
 -- ---- a channel
 
 -- the figures of a band are those of the band that it shows
 pub record Copied (c : SubbandChannel) (k : ℕ) : Type 0 where
-  pub plain : coreAt c k .plain ≡ coreAt c (shownBand k) .plain
-  pub uncapped : coreAt c k .uncapped ≡ coreAt c (shownBand k) .uncapped
+  pub streams : streamsAt c k ≡ streamsAt c (shownBand k)
   pub compensated : onsetAt c k .compensated ≡ onsetAt c (shownBand k) .compensated
 
 abbrev pub AllInOrder : SubbandSettings → Type 0
 AllInOrder s = (k : ℕ) → InOrder (s .min) (maxOf s k)
 
--- What a channel keeps: at most six points, bands in range, onset values at the minimum, bands 0 and 64 as copies that wait.
+-- What a channel keeps: its sums, bands in range, onset values at the minimum, bands 0 and 64 as copies that wait.
 pub record ChannelKept (s : SubbandSettings) (c : SubbandChannel) : Type 0 where
-  pub points : c .«num_points» ≤ 6
-  pub core : (k : ℕ) → k < 65 → CoreKept (c .«num_points») (s .min) (maxOf s k) (coreAt c k)
+  pub sums : ChannelSums c
+  pub streams : (k : ℕ) → k < 65 → StreamsKept (s .min) (maxOf s k) (streamsAt c k)
   pub onset : (k : ℕ) → k < 65 → OnsetKept (s .min) (maxOf s k) (onsetAt c k)
   pub onsetMin : (k : ℕ) → k < 65 → onsetAt c k .onset ≡ s .min
   pub copied : (k : ℕ) → k < 65 → Copied c k
   pub outer : (k : ℕ) → k < 65 → innerBand k ≡ false → onsetAt c k .waits ≡ true
 
-pub fresh-kept : (s : SubbandSettings) → AllInOrder s → ChannelKept s (fresh (s .min))
-unfolding fresh
-fresh-kept s limits =
-    record {
-      points = lit≤ tt;
-      core = λ k h. record {
-        capture = rw (getD-tab 65 (λ j. zero32) k nan h) no-sum;
-        residual = rw (getD-tab 65 (λ j. zero32) k nan h) no-sum;
-        plain = rw (getD-tab 65 (λ j. s .min) k nan h) (min-between (limits k));
-        uncapped = rw (getD-tab 65 (λ j. s .min) k nan h) (min-between (uncapped-in-order (limits k)));
-      };
-      onset = λ k h. record {
-        compensated = rw (getD-tab 65 (λ j. s .min) k nan h) (min-between (limits k));
-        onset = rw (getD-tab 65 (λ j. s .min) k nan h) (min-between (limits k));
-        hold = rw (getD-tab 65 (λ j. pos 0) k (pos 0) h) refl;
-      };
-      onsetMin = λ k h. getD-tab 65 (λ j. s .min) k nan h;
-      copied = λ k h. record { plain = same k h; uncapped = same k h; compensated = same k h };
-      outer = λ k h out. getD-tab 65 (λ j. true) k false h;
-    }
-  where
-    same : (k : ℕ) → k < 65 → getD (tab 65 (λ j. s .min)) k nan ≡ getD (tab 65 (λ j. s .min)) (shownBand k) nan
-    same = shown-copied (λ j. s .min)
+-- a record that is put together of streams as they are shown
+module _ (s : SubbandSettings) (n : ℕ) (sums : ℕ → Sums) (streams : ℕ → Streams) (onset : ℕ → Onset) where
+  record-shown : SubbandChannel
+  record-shown = channelFrom n sums (λ k. streams (shownBand k)) (compensatedShown onset)
 
--- what an update may bring a channel: captures and residuals from 0 to 2^100
-pub record BlockOk (b : Block) : Type 0 where
-  pub capture : (k : ℕ) → k < 65 → Value (2 ^ 100) (getD (b .capture) k nan)
-  pub residual : (k : ℕ) → k < 65 → Value (2 ^ 100) (getD (b .residual) k nan)
+  module _ (k : ℕ) (h : k < 65) where
+    streams-shown : streamsAt record-shown k ≡ streams (shownBand k)
+    unfolding record-shown
+    streams-shown = streams-from n sums (λ j. streams (shownBand j)) (compensatedShown onset) k h
+
+    onset-shown : onsetAt record-shown k ≡ compensatedShown onset k
+    unfolding record-shown
+    onset-shown = onset-from n sums (λ j. streams (shownBand j)) (compensatedShown onset) k h
+
+  -- a band shows what the band that it shows does
+  shown-twice : (k : ℕ) → k < 65 → shownBand (shownBand k) ≡ shownBand k
+  shown-twice k h = inner-shown (shownBand k) (shown-inner k h)
+
+  module _
+      (heard : ChannelSums record-shown)
+      (inRange : (k : ℕ) → k < 65 → StreamsKept (s .min) (maxOf s k) (streams k))
+      (held : (k : ℕ) → k < 65 → OnsetKept (s .min) (maxOf s k) (onset k))
+      (least : (k : ℕ) → k < 65 → onset k .onset ≡ s .min)
+      (waiting : (k : ℕ) → k < 65 → innerBand k ≡ false → onset k .waits ≡ true)
+    where
+      shown-kept : ChannelKept s record-shown
+      unfolding compensatedShown
+      shown-kept =
+          record {
+            sums = heard;
+            streams = λ k h.
+                subst (StreamsKept (s .min) (maxOf s k)) (sym (streams-shown k h))
+                (rw (← max-shown (s .«max_l») (s .«max_h») k) (inRange (shownBand k) (shown-below k h)));
+            onset = λ k h.
+                subst (OnsetKept (s .min) (maxOf s k)) (sym (onset-shown k h))
+                (record {
+                  compensated = rw (← max-shown (s .«max_l») (s .«max_h») k) (held (shownBand k) (shown-below k h) .compensated);
+                  onset = held k h .onset;
+                  hold = held k h .hold;
+                });
+            onsetMin = λ k h. ap (λ (o : Onset). o .onset) (onset-shown k h) ∙ least k h;
+            copied = λ k h.
+                record {
+                  streams = streams-shown k h ∙ ap streams (sym (shown-twice k h)) ∙ sym (streams-shown (shownBand k) (shown-below k h));
+                  compensated =
+                      ap (λ (o : Onset). o .compensated) (onset-shown k h) ∙ ap (λ (j : ℕ). onset j .compensated) (sym (shown-twice k h))
+                      ∙ ap (λ (o : Onset). o .compensated) (sym (onset-shown (shownBand k) (shown-below k h)));
+                };
+            outer = λ k h out. ap (λ (o : Onset). o .waits) (onset-shown k h) ∙ waiting k h out;
+          }
+
+pub fresh-kept : (s : SubbandSettings) → AllInOrder s → ChannelKept s (fresh (s .min))
+unfolding fresh record-shown compensatedShown
+fresh-kept s limits =
+    shown-kept s 0 (λ k. freshSums) (λ k. freshStreams (s .min)) (λ k. freshOnset (s .min)) (fresh-sums (s .min))
+    (λ k h. record { plain = min-between (limits k); uncapped = min-between (uncapped-in-order (limits k)) })
+    (λ k h. record { compensated = min-between (limits k); onset = min-between (limits k); hold = refl })
+    (λ k h. refl)
+    (λ k h out. refl)
 
 module _ (s : SubbandSettings) (b : Block) (c : SubbandChannel) where
-  -- the points held after the update
-  abbrev points : ℕ
-  points = cond (b .converged) (pointsWith (c .«num_points»)) (c .«num_points»)
+  new-ratio : (k : ℕ) → isNew s b c k ≡ true → hasRatio (sumsAfter s b c k .residual) ≡ true
+  new-ratio k e =
+      and-right (innerBand k) (hasRatio (sumsAfter s b c k .residual))
+      (and-right (isSixth s b c) (innerBand k && hasRatio (sumsAfter s b c k .residual)) e)
 
-  new-ratio : (k : ℕ) → isNew s b c k ≡ true → hasRatio (heard s b c k) ≡ true
-  new-ratio k e = and-right (b .converged && eqb (pointsWith (c .«num_points»)) allPoints && innerBand k) (hasRatio (heard s b c k)) e
-
-  -- no update moves an onset value, nor what stands beside the copied figures in bands 0 and 64
+  -- no update moves an onset value, nor what onset detection holds in bands 0 and 64
   onset-stays : (k : ℕ) → onsetAfter s b c k .onset ≡ onsetAt c k .onset
   unfolding onsetAfter onsetLearnt oneBlockLess
   onset-stays k =
@@ -117,27 +133,15 @@ module _ (s : SubbandSettings) (b : Block) (c : SubbandChannel) where
   outer-stays k out = rw (out, and-false (s .«onset_detection»))
 
   module _ (limits : AllInOrder s) (ok : BlockOk b) (kept : ChannelKept s c) where
-    heard-kept : (k : ℕ) → k < 65 → CoreKept points (s .min) (maxOf s k) (heard s b c k)
-    heard-kept k h = go (b .converged) (eqb (c .«num_points») allPoints) refl
-      where
-        render : Float
-        render = getD (b .render) k nan
+    ratio-plus : (k : ℕ) → k < 65 → isNew s b c k ≡ true → Signed false (newRatio s b c k)
+    ratio-plus k h e = ratio-signed (new-ratio k e) (sums-after s b c ok (kept .sums) k h)
 
-        go :
-            (conv full : Bool) → eqb (c .«num_points») 6 ≡ full
-            → CoreKept (cond conv (suc (cond full 0 (c .«num_points»))) (c .«num_points»)) (s .min) (maxOf s k)
-            (cond conv (added render (getD (b .capture) k nan) (getD (b .residual) k nan) (cond full (emptied (coreAt c k)) (coreAt c k))) (coreAt c k))
-        go true true e = added-kept render (lit< tt) (ok .capture k h) (ok .residual k h) (emptied-kept (kept .core k h))
-        go true false e =
-            added-kept render (omega (arith, kept .points, eqb-false (c .«num_points») 6 e)) (ok .capture k h) (ok .residual k h) (kept .core k h)
-        go false full e = kept .core k h
-
-    core-kept : (k : ℕ) → k < 65 → CoreKept points (s .min) (maxOf s k) (coreAfter s b c k)
-    unfolding coreAfter
-    core-kept k h =
-        cond-has (CoreKept points (s .min) (maxOf s k)) (isNew s b c k)
-        (λ e. learnt-kept (limits k) (new-ratio k e) (heard-kept k h))
-        (λ e. heard-kept k h)
+    streams-kept : (k : ℕ) → k < 65 → StreamsKept (s .min) (maxOf s k) (streamsAfter s b c k)
+    unfolding streamsAfter
+    streams-kept k h =
+        cond-has (StreamsKept (s .min) (maxOf s k)) (isNew s b c k)
+        (λ e. learnt-kept (sumsAfter s b c k .low) (limits k) (ratio-plus k h e) (kept .streams k h))
+        (λ e. kept .streams k h)
 
     onset-kept : (k : ℕ) → k < 65 → OnsetKept (s .min) (maxOf s k) (onsetAfter s b c k)
     unfolding onsetAfter
@@ -146,32 +150,13 @@ module _ (s : SubbandSettings) (b : Block) (c : SubbandChannel) where
         cond-has Kept (s .«onset_detection» && innerBand k)
         (λ on. one-block-less-kept (limits k)
         (cond-has Kept (isNew s b c k)
-        (λ e. onset-learnt-kept (heard s b c k .low) (limits k) (ratio-signed (new-ratio k e) (heard-kept k h)) (kept .onset k h))
+        (λ e. onset-learnt-kept (sumsAfter s b c k .low) (limits k) (ratio-plus k h e) (kept .onset k h))
         (λ e. kept .onset k h)))
         (λ off. kept .onset k h)
 
     pub after-kept : ChannelKept s (channelAfter s b c)
-    unfolding channelAfter
+    unfolding channelAfter record-shown
     after-kept =
-        record {
-          points = points-stay-few (b .converged) (c .«num_points») (kept .points);
-          core = λ k h. record {
-            capture = rw (getD-tab 65 (λ j. coreAfter s b c j .capture) k nan h) (core-kept k h .capture);
-            residual = rw (getD-tab 65 (λ j. coreAfter s b c j .residual) k nan h) (core-kept k h .residual);
-            plain = rw (getD-tab 65 (λ j. coreAfter s b c (shownBand j) .plain) k nan h, ← max-shown) (core-kept (shownBand k) (shown-below k h) .plain);
-            uncapped = rw (getD-tab 65 (λ j. coreAfter s b c (shownBand j) .uncapped) k nan h) (core-kept (shownBand k) (shown-below k h) .uncapped);
-          };
-          onset = λ k h. record {
-            compensated = rw (getD-tab 65 (λ j. onsetAfter s b c (shownBand j) .compensated) k nan h, ← max-shown) (onset-kept (shownBand k) (shown-below k h) .compensated);
-            onset = rw (getD-tab 65 (λ j. onsetAfter s b c j .onset) k nan h) (onset-kept k h .onset);
-            hold = rw (getD-tab 65 (λ j. onsetAfter s b c j .hold) k (pos 0) h) (onset-kept k h .hold);
-          };
-          onsetMin = λ k h. getD-tab 65 (λ j. onsetAfter s b c j .onset) k nan h ∙ onset-stays k ∙ kept .onsetMin k h;
-          copied = λ k h. record {
-            plain = shown-copied (λ j. coreAfter s b c j .plain) k h;
-            uncapped = shown-copied (λ j. coreAfter s b c j .uncapped) k h;
-            compensated = shown-copied (λ j. onsetAfter s b c j .compensated) k h;
-          };
-          outer = λ k h out.
-              getD-tab 65 (λ j. onsetAfter s b c j .waits) k false h ∙ ap (λ (o : Onset). o .waits) (outer-stays k out) ∙ kept .outer k h out;
-        }
+        shown-kept s (pointsAfter s b c) (sumsAfter s b c) (streamsAfter s b c) (onsetAfter s b c) (after-sums s b c ok (kept .sums)) streams-kept onset-kept
+        (λ k h. onset-stays k ∙ kept .onsetMin k h)
+        (λ k h out. ap (λ (o : Onset). o .waits) (outer-stays k out) ∙ kept .outer k h out)

@@ -1,6 +1,6 @@
 pub mod Judged
 pub mod Updates
-pub mod Records
+pub mod Parts
 pub mod After
 pub mod Sums
 pub mod Channels

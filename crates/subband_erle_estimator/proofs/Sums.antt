@@ -2,56 +2,36 @@
 -- number 20 lets the state pass.
 use mathlib.Core.Path.{_≡_, refl, sym, subst}
 use mathlib.Core.Bool.{Bool, true, false, cond}
-use mathlib.Core.List.{List, [], _∷_}
+use mathlib.Core.List.{List}
 use Prim.Native.Nat.{ℕ, suc, _+_, _*_, _^_, _≤_, _<_}
 use native.Mathlib.Nat.{le-trans, mul-le-mul-right}
-use native.Mathlib.Numerals.{add-one}
 use native.Mathlib.Omega.{arith}
 use borrow.Author.Tests.{eqb-false, le-leb}
-use lib.Dec.{eqb, lit<, lit≤}
-use lib.Ieee.{Float, nan, binary32, add}
+use lib.Dec.{eqb, lit≤}
+use lib.Ieee.{Float, nan}
 use lib.ListN.{length, getD}
-use Rattle.aec3_common.specs.Binary32.{zero32, greatestValue, greatestSum, within, valuesOk, sumsOk}
-use Rattle.aec3_common.specs.Lists.{tab, every}
+use Rattle.aec3_common.specs.Binary32.{greatestValue, greatestSum, within, valuesOk, sumsOk}
 use Rattle.aec3_common.specs.Refusal.{accepted}
-use Rattle.aec3_common.specs.Spectra.{part, sumFrom}
+use Rattle.aec3_common.specs.Spectra.{part, shownBand}
 use Rattle.aec3_common.proofs.Bands.{part-length, part-every}
 use Rattle.aec3_common.proofs.Calls.{UpdateOk}
 use Rattle.aec3_common.proofs.Every.{every-at, every-by, every-first}
-use Rattle.aec3_common.proofs.Numbers.{UpTo, no-sum, sum-up-to, up-to-within}
+use Rattle.aec3_common.proofs.Numbers.{UpTo, Value, no-sum, up-to-within, value-within}
 use Rattle.aec3_common.proofs.Tables.{length-tab, getD-tab, getD-tab-first}
-use Rattle.erle_bands.specs.Band.{Core, emptied, added, learnt}
+use Rattle.erle_bands.specs.Band.{Sums, freshSums, added, Streams, freshStreams, Onset, freshOnset}
+use Rattle.erle_bands.proofs.Range.{SumsUpTo, added-up-to}
 use Rattle.subband_erle_estimator.specs.declared.settings.SubbandSettings.{SubbandSettings}
 use Rattle.subband_erle_estimator.specs.declared.channel.SubbandChannel.{SubbandChannel}
 use Rattle.subband_erle_estimator.specs.declared.SubbandErleEstimator.{SubbandErleEstimator}
-use Rattle.subband_erle_estimator.specs.Channel.{coreAt, Block, allPoints, pointsWith, fresh, maxAt, isNew, coreAfter, channelAfter}
+use Rattle.subband_erle_estimator.specs.Channel.{sumsAt, channelFrom, compensatedShown, fresh, Block, allPoints, pointsWith, pointsAfter, sumsAfter, streamsAfter, onsetAfter, channelAfter}
 use Rattle.subband_erle_estimator.specs.Subband.{settingsRefusal, channelOk, stateOk, started, noChannel, channelAt, blockOf, updated}
 use Rattle.subband_erle_estimator.proofs.Judged.{settings-few}
+use Rattle.subband_erle_estimator.proofs.Parts.{sums-from}
 
--- ---- sums
-
--- a sum of n values
-abbrev SumOf : ℕ → Float → Type 0
-SumOf n x = UpTo (n * 2 ^ 100) x
-
--- with one value more
-value-more : (n : ℕ) {x : Float} (y : Float) → n < 6 → SumOf n x → within greatestValue y ≡ true → SumOf (suc n) (add binary32 x y)
-unfolding every sumFrom
-value-more n y few u ok = rw add-one at (sum-up-to n (y ∷ []) u (simp ok) (omega arith))
-
--- a sum after a block; it begins anew after six points
-block-more :
-    (converged : Bool) (n : ℕ) {x : Float} (y : Float) → n ≤ 6 → SumOf n x → within greatestValue y ≡ true
-    → SumOf (cond converged (pointsWith n) n) (cond converged (add binary32 (cond (eqb n allPoints) zero32 x) y) x)
-block-more true n {x} y few u ok = go (eqb n allPoints) refl
-  where
-    go : (full : Bool) → eqb n 6 ≡ full → SumOf (suc (cond full 0 n)) (add binary32 (cond full zero32 x) y)
-    go true e = value-more 0 y (lit< tt) no-sum ok
-    go false e = value-more n y (omega (arith, few, eqb-false n 6 e)) u ok
-block-more false n y few u ok = u
+-- ---- a channel
 
 -- a count of at most 6 points stays one
-pub points-stay-few : (converged : Bool) (n : ℕ) → n ≤ 6 → cond converged (pointsWith n) n ≤ 6
+points-stay-few : (converged : Bool) (n : ℕ) → n ≤ 6 → cond converged (pointsWith n) n ≤ 6
 points-stay-few true n few = go (eqb n allPoints) refl
   where
     go : (full : Bool) → eqb n 6 ≡ full → suc (cond full 0 n) ≤ 6
@@ -59,81 +39,64 @@ points-stay-few true n few = go (eqb n allPoints) refl
     go false e = omega (arith, few, eqb-false n 6 e)
 points-stay-few false n few = few
 
--- the sums of up to six points
-sums-ok : (n : ℕ) (xs : List Float) → n ≤ 6 → length xs ≡ 65 → ((k : ℕ) → k < 65 → SumOf n (getD xs k nan)) → sumsOk xs ≡ true
-sums-ok n xs few long each =
-    every-by (within greatestSum) xs nan
-    (λ k h. up-to-within (each k (omega arith)) (le-trans (mul-le-mul-right (2 ^ 100) few) (lit≤ tt)))
-
--- ---- a channel
-
+-- what a channel's sums keep
 pub record ChannelSums (c : SubbandChannel) : Type 0 where
   pub few : c .«num_points» ≤ 6
-  pub capture : (k : ℕ) → k < 65 → SumOf (c .«num_points») (getD (c .y2) k nan)
-  pub residual : (k : ℕ) → k < 65 → SumOf (c .«num_points») (getD (c .e2) k nan)
+  pub sums : (k : ℕ) → k < 65 → SumsUpTo (c .«num_points») (sumsAt c k)
   pub longCapture : length (c .y2) ≡ 65
   pub longResidual : length (c .e2) ≡ 65
 
-fresh-sums : (min : Float) → ChannelSums (fresh min)
-unfolding fresh
-fresh-sums min =
+-- a record that is put together keeps it if its sums do
+sums-of :
+    (n : ℕ) (sums : ℕ → Sums) (streams : ℕ → Streams) (onset : ℕ → Onset)
+    → n ≤ 6 → ((k : ℕ) → k < 65 → SumsUpTo n (sums k)) → ChannelSums (channelFrom n sums streams onset)
+unfolding channelFrom
+sums-of n sums streams onset few each =
     record {
-      few = lit≤ tt;
-      capture = none;
-      residual = none;
-      longCapture = length-tab 65 (λ j. zero32);
-      longResidual = length-tab 65 (λ j. zero32);
+      few = few;
+      sums = λ k h. subst (SumsUpTo n) (sym (sums-from n sums streams onset k h)) (each k h);
+      longCapture = length-tab 65 _;
+      longResidual = length-tab 65 _;
     }
-  where
-    none : (k : ℕ) → k < 65 → SumOf 0 (getD (tab 65 (λ j. zero32)) k nan)
-    none k h = rw (getD-tab 65 (λ j. zero32) k nan h) no-sum
 
-module _ (g : SubbandSettings) (b : Block) (c : SubbandChannel) where
-  -- a band's sums after a block, which learning leaves as they are
-  sums-after :
-      (k : ℕ)
-      → let sum : Float → Float → Float = λ held new. cond (b .converged) (add binary32 (cond (eqb (c .«num_points») allPoints) zero32 held) new) held in
-      (coreAfter g b c k .capture ≡ sum (getD (c .y2) k nan) (getD (b .capture) k nan))
-      × (coreAfter g b c k .residual ≡ sum (getD (c .e2) k nan) (getD (b .residual) k nan))
-  unfolding coreAfter learnt added emptied
-  sums-after k = go (isNew g b c k) (b .converged) (eqb (c .«num_points») allPoints)
+pub fresh-sums : (min : Float) → ChannelSums (fresh min)
+unfolding fresh
+fresh-sums min = sums-of 0 (λ k. freshSums) (λ k. freshStreams min) (λ k. freshOnset min) (lit≤ tt) (λ k h. record { capture = no-sum; residual = no-sum })
+
+-- what an update may bring a channel: captures and residuals from 0 to 2^100
+pub record BlockOk (b : Block) : Type 0 where
+  pub capture : (k : ℕ) → k < 65 → Value (2 ^ 100) (getD (b .capture) k nan)
+  pub residual : (k : ℕ) → k < 65 → Value (2 ^ 100) (getD (b .residual) k nan)
+
+module _ (g : SubbandSettings) (b : Block) (c : SubbandChannel) (ok : BlockOk b) (kept : ChannelSums c) where
+  -- a band's sums after a block
+  pub sums-after : (k : ℕ) → k < 65 → SumsUpTo (pointsAfter g b c) (sumsAfter g b c k)
+  unfolding sumsAfter
+  sums-after k h = go (b .converged)
     where
-      held : Core
-      held = coreAt c k
+      n : ℕ
+      n = c .«num_points»
 
       go :
-          (new conv full : Bool)
-          → let heard : Core = cond conv (added (getD (b .render) k nan) (getD (b .capture) k nan) (getD (b .residual) k nan) (cond full (emptied held) held)) held in
-          let after : Core = cond new (learnt (g .min) (maxAt g b c k) heard) heard in
-          (after .capture ≡ cond conv (add binary32 (cond full zero32 (held .capture)) (getD (b .capture) k nan)) (held .capture))
-          × (after .residual ≡ cond conv (add binary32 (cond full zero32 (held .residual)) (getD (b .residual) k nan)) (held .residual))
-      go true true true = (refl, refl)
-      go true true false = (refl, refl)
-      go true false full = (refl, refl)
-      go false true true = (refl, refl)
-      go false true false = (refl, refl)
-      go false false full = (refl, refl)
+          (converged : Bool)
+          → SumsUpTo (cond converged (pointsWith n) n)
+          (cond converged (added (eqb n allPoints) (getD (b .render) k nan) (getD (b .capture) k nan) (getD (b .residual) k nan) (sumsAt c k)) (sumsAt c k))
+      go true =
+          added-up-to (eqb n allPoints) (getD (b .render) k nan) (λ e. omega (arith, kept .few, eqb-false n 6 e)) (ok .capture k h) (ok .residual k h)
+          (kept .sums k h)
+      go false = kept .sums k h
 
-  module _
-      (captures : (k : ℕ) → k < 65 → within greatestValue (getD (b .capture) k nan) ≡ true)
-      (residuals : (k : ℕ) → k < 65 → within greatestValue (getD (b .residual) k nan) ≡ true)
-      (sums : ChannelSums c)
-    where
-      after-sums : ChannelSums (channelAfter g b c)
-      unfolding channelAfter
-      after-sums =
-          let n = c .«num_points» in
-          record {
-            few = points-stay-few (b .converged) n (sums .few);
-            capture = λ k h.
-                rw (getD-tab 65 (λ j. coreAfter g b c j .capture) k nan h, sums-after k .0)
-                (block-more (b .converged) n (getD (b .capture) k nan) (sums .few) (sums .capture k h) (captures k h));
-            residual = λ k h.
-                rw (getD-tab 65 (λ j. coreAfter g b c j .residual) k nan h, sums-after k .1)
-                (block-more (b .converged) n (getD (b .residual) k nan) (sums .few) (sums .residual k h) (residuals k h));
-            longCapture = length-tab 65 (λ k. coreAfter g b c k .capture);
-            longResidual = length-tab 65 (λ k. coreAfter g b c k .residual);
-          }
+  pub after-sums : ChannelSums (channelAfter g b c)
+  unfolding channelAfter
+  after-sums =
+      sums-of (pointsAfter g b c) (sumsAfter g b c) (λ k. streamsAfter g b c (shownBand k)) (compensatedShown (onsetAfter g b c))
+      (points-stay-few (b .converged) (c .«num_points») (kept .few)) sums-after
+
+-- number 20 lets the sums of up to six points pass
+sums-ok : (n : ℕ) (xs : List Float) → n ≤ 6 → length xs ≡ 65 → ((k : ℕ) → k < 65 → UpTo (n * 2 ^ 100) (getD xs k nan)) → sumsOk xs ≡ true
+sums-ok n xs few long each =
+    every-by (within greatestSum) xs nan
+    (λ k h. up-to-within (each k (omega arith)) (le-trans (mul-le-mul-right (2 ^ 100) few) (lit≤ tt)))
 
 channel-ok : (c : SubbandChannel) → ChannelSums c → channelOk c ≡ true
 unfolding channelOk
@@ -141,19 +104,28 @@ channel-ok c sums =
     let n = c .«num_points» in
     simp (
       le-leb n allPoints (sums .few),
-      sums-ok n (c .y2) (sums .few) (sums .longCapture) (sums .capture),
-      sums-ok n (c .e2) (sums .few) (sums .longResidual) (sums .residual),
+      sums-ok n (c .y2) (sums .few) (sums .longCapture) (λ k h. sums .sums k h .capture),
+      sums-ok n (c .e2) (sums .few) (sums .longResidual) (λ k h. sums .sums k h .residual),
     )
 
 -- ---- a state
 
 -- the values that an update lends one channel
-value-at :
+values-at :
     (n : ℕ) (xs : List Float) → length xs ≡ n * 65 → valuesOk xs ≡ true
-    → (ch k : ℕ) → ch < n → k < 65 → within greatestValue (getD (part xs ch) k nan) ≡ true
-value-at n xs long ok ch k h l =
-    every-at (within greatestValue) (part xs ch) nan k (part-every (within greatestValue) xs ch ok)
-    (omega (arith, part-length xs ch (omega arith)))
+    → (ch k : ℕ) → ch < n → k < 65 → Value (2 ^ 100) (getD (part xs ch) k nan)
+values-at n xs long ok ch k h l =
+    value-within (getD (part xs ch) k nan)
+    (every-at (within greatestValue) (part xs ch) nan k (part-every (within greatestValue) xs ch ok) (omega (arith, part-length xs ch (omega arith))))
+
+pub block-ok :
+    {ok : Bool} {n : ℕ} {converged : List Bool} {render capture residual : List Float} → UpdateOk ok n converged render capture residual
+    → (ch : ℕ) → ch < n → BlockOk (blockOf converged render capture residual ch)
+block-ok {n = n} {capture = capture} {residual = residual} ok ch h =
+    record {
+      capture = λ k l. values-at n capture (ok .longCapture) (ok .captureOk) ch k h l;
+      residual = λ k l. values-at n residual (ok .longResidual) (ok .residualOk) ch k h l;
+    }
 
 -- settings that pass, and the sums of each channel
 pub record SumsKept (s : SubbandErleEstimator) : Type 0 where
@@ -182,10 +154,7 @@ updated-sums s converged render capture residual sums ok =
       settings = sums .settings;
       channels = λ ch h.
           subst ChannelSums (sym (getD-tab-first 4 n next (channelAt s) ch noChannel (settings-few g (rw (sums .settings))) h))
-          (after-sums g (blockOf converged render capture residual ch) (channelAt s ch)
-          (λ k l. value-at n capture (ok .longCapture) (ok .captureOk) ch k h l)
-          (λ k l. value-at n residual (ok .longResidual) (ok .residualOk) ch k h l)
-          (sums .channels ch h));
+          (after-sums g (blockOf converged render capture residual ch) (channelAt s ch) (block-ok ok ch h) (sums .channels ch h));
     }
 
 pub state-ok : (s : SubbandErleEstimator) → SumsKept s → stateOk s ≡ true

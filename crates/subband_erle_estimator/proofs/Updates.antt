@@ -11,14 +11,14 @@ use Rattle.aec3_common.proofs.Tables.{Stored, stored-more, stored-firsts}
 use Rattle.subband_erle_estimator.specs.declared.channel.SubbandChannel.{SubbandChannel}
 use Rattle.subband_erle_estimator.specs.declared.settings.SubbandSettings.{SubbandSettings}
 use Rattle.subband_erle_estimator.specs.declared.SubbandErleEstimator.{SubbandErleEstimator}
-use Rattle.subband_erle_estimator.specs.Channel.{quiet, coreAfter, onsetAfter, channelAfter}
+use Rattle.subband_erle_estimator.specs.Channel.{quiet, sumsAfter, streamsAfter, onsetAfter, channelAfter}
 use Rattle.subband_erle_estimator.specs.Subband.{stateOk, noChannel, channelAt, blockOf, updated}
 
 -- where a channel stands unconverged its powers are not looked at
 pub quiet-any :
     (g : SubbandSettings) (c : SubbandChannel) (x y e : List Float)
     → channelAfter g quiet c ≡ channelAfter g (record { converged = false; render = x; capture = y; residual = e }) c
-unfolding channelAfter coreAfter onsetAfter
+unfolding channelAfter sumsAfter streamsAfter onsetAfter
 quiet-any g c x y e = refl
 
 -- a channel after the update

@@ -2,14 +2,13 @@
 use mathlib.Core.Path.{_≡_}
 use mathlib.Core.List.{List}
 use Rattle.aec3_common.specs.Calls.{Call}
-use Rattle.aec3_common.specs.Refusal.{accepted, badState}
+use Rattle.aec3_common.specs.Refusal.{badState}
 use Rattle.subband_erle_estimator.specs.declared.settings.SubbandSettings.{SubbandSettings}
 use Rattle.subband_erle_estimator.specs.Subband.{startAnswer}
-use Rattle.subband_erle_estimator.specs.Resting.{answer, run, InBinary32}
+use Rattle.subband_erle_estimator.specs.Resting.{answer, run}
 
--- Claim: after an accepted start and any list of updates and resets, refused calls among them, no call is refused under 20.
-unfoldable pub NeverBadState : Type 0
-NeverBadState =
-    (settings : SubbandSettings) (calls : List Call) (next : Call)
-    → InBinary32 settings → startAnswer settings .refused ≡ accepted
-    → answer (run (startAnswer settings .state) calls) next .refused ≡ badState → ⊥
+-- Claim, which `SubbandErleEstimator::new` promises of the settings that it accepts: after any list of updates and resets, refused calls
+-- among them, no call is refused under 20.
+unfoldable pub NeverBadState : SubbandSettings → Type 0
+NeverBadState settings =
+    (calls : List Call) (next : Call) → answer (run (startAnswer settings .state) calls) next .refused ≡ badState → ⊥

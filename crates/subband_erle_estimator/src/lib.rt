@@ -11,6 +11,11 @@ pub use channel::SubbandChannel;
 pub use settings::SubbandSettings;
 use settings::refused_settings;
 ghost use mathlib.Core.Path.{_≡_};
+ghost use mathlib.Core.List.{List};
+ghost use Rattle.aec3_common.specs.Calls.{Call};
+ghost use Rattle.aec3_common.specs.Refusal.{accepted};
+ghost use Rattle.subband_erle_estimator.specs.Accepted.{NeverBadState};
+ghost use Rattle.subband_erle_estimator.specs.Resting.{RangeAndRest};
 ghost use Rattle.subband_erle_estimator.specs.Subband.{stateOk, started as Subband·started, startAnswer, resetAnswer, updateAnswer};
 
 pub struct SubbandErleEstimator {
@@ -34,9 +39,12 @@ fn started(settings: SubbandSettings) -> SubbandErleEstimator
 }
 
 impl SubbandErleEstimator {
-    // A start. 1 and 2 are turned away, with a state that every later call turns away.
+    // A start. 1 and 2 are turned away, with a state that every later call turns away. It promises what holds after any list of
+    // calls: every figure in its range, an unconverged channel at rest after 500 updates, and no state that 20 turns away.
     pub fn new(settings: SubbandSettings) -> SubbandAnswer
         ensures { λ r. ⌜ r ≡ startAnswer settings ⌝ }
+        ensures { λ r. ⌜ ((calls : List Call) → r .refused ≡ accepted → RangeAndRest settings calls) ⌝ }
+        ensures { λ r. ⌜ (r .refused ≡ accepted → NeverBadState settings) ⌝ }
     {
         let refused = settings.refusal();
         if refused == ACCEPTED {

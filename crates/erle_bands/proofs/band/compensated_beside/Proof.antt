@@ -1,7 +1,7 @@
 use borrow.Author.Needs.{needs}
 use mathlib.Core.Path.{_∙_}
 use mir.Facts.{toZ-ofZ}
-use Rattle.erle_bands.specs.Steps.{compensatedBeside}
+use Rattle.erle_bands.specs.Band.{compensatedBeside}
 use Rattle.erle_bands.proofs.band.compensated_beside.Statement.{statement}
 use Rattle.erle_bands.proofs.band.compensated_beside.Tie as tie
 

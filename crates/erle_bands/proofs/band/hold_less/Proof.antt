@@ -5,7 +5,7 @@ use mir.Syntax.{w32}
 use mir.Val.{toZ, ofZ}
 use Rattle.aec3_common.specs.Counts.{fallen}
 use Rattle.aec3_common.proofs.Holds.{read-back}
-use Rattle.erle_bands.specs.Steps.{holdLess}
+use Rattle.erle_bands.specs.Band.{holdLess}
 use Rattle.erle_bands.proofs.band.hold_less.Statement.{statement}
 use Rattle.erle_bands.proofs.band.hold_less.Tie as tie
 

@@ -1,4 +1,4 @@
-use Rattle.erle_bands.specs.Steps.{lowWith}
+use Rattle.erle_bands.specs.Band.{lowWith}
 use Rattle.erle_bands.proofs.band.low_with.Statement.{statement}
 use Rattle.erle_bands.proofs.band.low_with.Tie as tie
 

@@ -1,4 +1,4 @@
-use Rattle.erle_bands.specs.Steps.{sumWith}
+use Rattle.erle_bands.specs.Band.{sumWith}
 use Rattle.erle_bands.proofs.band.sum_with.Statement.{statement}
 use Rattle.erle_bands.proofs.band.sum_with.Tie as tie
 

@@ -1,14 +1,14 @@
 use mir.Facts.{toZ-ofZ}
-use Rattle.erle_bands.specs.Steps.{waitBeside}
+use Rattle.erle_bands.specs.Band.{waitsBeside}
 use Rattle.erle_bands.proofs.band.wait_beside.Statement.{statement}
 use Rattle.erle_bands.proofs.band.wait_beside.Tie as tie
 
 returns : tie.Need-returns
-unfolding waitBeside
+unfolding waitsBeside
 returns c = simp (simp (toZ-ofZ (c .before .fits .hold)) at (c .if1 .taken))
 
 returns-2 : tie.Need-returns-2
-unfolding waitBeside
+unfolding waitsBeside
 returns-2 c = simp (simp (toZ-ofZ (c .before .fits .hold)) at (c .if1 .left))
 
 pub wait-beside-spec : {M : Type 1} → statement M

@@ -7,7 +7,8 @@ use lib.ListN.{getD}
 use Rattle.aec3_common.proofs.Loops.{loops}
 use Rattle.aec3_common.proofs.Holds.{read-back}
 use Rattle.aec3_common.proofs.Tables.{Stored, stored-more, stored-not-yet, stored-inner}
-use Rattle.erle_bands.specs.Steps.{compensatedBeside, compensatedsBeside}
+use Rattle.erle_bands.specs.Band.{compensatedBeside}
+use Rattle.erle_bands.specs.Steps.{allCompensatedBeside}
 use Rattle.erle_bands.proofs.onsets.decay_all.Statement.{statement}
 use Rattle.erle_bands.proofs.onsets.decay_all.Tie as tie
 
@@ -24,7 +25,7 @@ loop-again c =
     stored-more _ inv (search loops) (search loops) (c .compensated-beside .ensures ∙ simp (same, stored-not-yet inv))
 
 returns : tie.Need-returns Inv-loop μ-loop
-unfolding compensatedsBeside
+unfolding allCompensatedBeside
 returns c = stored-inner (c .before .loop .inv) (c .loop-test .left)
 
 pub decay-all-spec : {M : Type 1} → statement M

@@ -6,7 +6,8 @@ use lib.ListN.{getD}
 use Rattle.aec3_common.proofs.Loops.{loops}
 use Rattle.aec3_common.proofs.Holds.{read-back}
 use Rattle.aec3_common.proofs.Tables.{Stored, stored-more, stored-not-yet, stored-inner}
-use Rattle.erle_bands.specs.Steps.{holdLess, holdsLess}
+use Rattle.erle_bands.specs.Band.{holdLess}
+use Rattle.erle_bands.specs.Steps.{allHoldsLess}
 use Rattle.erle_bands.proofs.onsets.lower_all.Statement.{statement}
 use Rattle.erle_bands.proofs.onsets.lower_all.Tie as tie
 
@@ -24,7 +25,7 @@ loop-again c =
     (read-back (c .hold-less .result) (c .hold-less .ok) ∙ c .hold-less .ensures ∙ simp same (simp (stored-not-yet inv)))
 
 returns : tie.Need-returns Inv-loop μ-loop
-unfolding holdsLess
+unfolding allHoldsLess
 returns c = stored-inner (c .before .loop .inv) (c .loop-test .left)
 
 pub lower-all-spec : {M : Type 1} → statement M

@@ -7,12 +7,13 @@ use lib.ListN.{getD}
 use Rattle.aec3_common.proofs.Loops.{loops}
 use Rattle.aec3_common.proofs.Holds.{read-back}
 use Rattle.aec3_common.proofs.Tables.{Stored, stored-more, stored-not-yet, stored-inner}
-use Rattle.erle_bands.specs.Steps.{waitBeside, waitsBeside}
+use Rattle.erle_bands.specs.Band.{waitsBeside}
+use Rattle.erle_bands.specs.Steps.{allWaitsBeside}
 use Rattle.erle_bands.proofs.onsets.wait_all.Statement.{statement}
 use Rattle.erle_bands.proofs.onsets.wait_all.Tie as tie
 
 abbrev Inv-loop : tie.InvT-loop
-Inv-loop waits₀ holds k₀ waits k = Stored 65 false 1 64 (λ j. waitBeside (getD holds j (pos 0)) (getD waits₀ j false)) waits₀ waits k
+Inv-loop waits₀ holds k₀ waits k = Stored 65 false 1 64 (λ j. waitsBeside (getD holds j (pos 0)) (getD waits₀ j false)) waits₀ waits k
 
 abbrev μ-loop : tie.MeasureT-loop
 μ-loop waits₀ holds k₀ waits k = 64 - k
@@ -24,7 +25,7 @@ loop-again c =
     stored-more _ inv (search loops) (search loops) (c .wait-beside .ensures ∙ simp (same, stored-not-yet inv))
 
 returns : tie.Need-returns Inv-loop μ-loop
-unfolding waitsBeside
+unfolding allWaitsBeside
 returns c = stored-inner (c .before .loop .inv) (c .loop-test .left)
 
 pub wait-all-spec : {M : Type 1} → statement M

@@ -5,7 +5,8 @@ use lib.Ieee.{nan}
 use lib.ListN.{getD}
 use Rattle.aec3_common.proofs.Loops.{loops}
 use Rattle.aec3_common.proofs.Tables.{Stored, stored-more, stored-not-yet, stored-all}
-use Rattle.erle_bands.specs.Steps.{sumWith, sumsWith}
+use Rattle.erle_bands.specs.Band.{sumWith}
+use Rattle.erle_bands.specs.Steps.{sumsWith}
 use Rattle.erle_bands.proofs.sums.add_powers.Statement.{statement}
 use Rattle.erle_bands.proofs.sums.add_powers.Tie as tie
 

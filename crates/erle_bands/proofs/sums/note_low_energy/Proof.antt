@@ -6,7 +6,8 @@ use lib.Ieee.{nan}
 use lib.ListN.{getD}
 use Rattle.aec3_common.proofs.Loops.{loops}
 use Rattle.aec3_common.proofs.Tables.{Stored, stored-more, stored-not-yet, stored-all}
-use Rattle.erle_bands.specs.Steps.{lowWith, lowsWith}
+use Rattle.erle_bands.specs.Band.{lowWith}
+use Rattle.erle_bands.specs.Steps.{lowsWith}
 use Rattle.erle_bands.proofs.sums.note_low_energy.Statement.{statement}
 use Rattle.erle_bands.proofs.sums.note_low_energy.Tie as tie
 

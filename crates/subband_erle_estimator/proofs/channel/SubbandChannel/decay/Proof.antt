@@ -1,30 +1,31 @@
 use borrow.Author.Needs.{needs}
 use mathlib.Core.Path.{_∙_}
-use Rattle.subband_erle_estimator.proofs.After.{Long, after-quiet}
-use Rattle.subband_erle_estimator.proofs.Records.{rested-is}
+use Rattle.subband_erle_estimator.proofs.Parts.{Long}
+use Rattle.subband_erle_estimator.proofs.After.{rested-is, after-quiet}
 use Rattle.subband_erle_estimator.proofs.channel.SubbandChannel.decay.Statement.{statement}
 use Rattle.subband_erle_estimator.proofs.channel.SubbandChannel.decay.Tie as tie
 
 long : (c : tie.Start) → Long (c .args .t1)
 long c =
     record {
-      plain = search needs;
-      compensated = search needs;
-      uncapped = search needs;
-      onset = search needs;
-      waits = search needs;
-      hold = search needs;
       capture = search needs;
       residual = search needs;
       low = search needs;
+      plain = search needs;
+      uncapped = search needs;
+      compensated = search needs;
+      onset = search needs;
+      waits = search needs;
+      hold = search needs;
     }
 
 returns : tie.Need-returns
 returns c =
-    let a = c .before .before .before .before .before .before .before .before .before .before .before .before .before .before .before .before .before .args in
-    rested-is (a .settings) (a .t1) (c .before .before .before .before .before .before .before .before .before .before .before .before .before .before .before .lower-holds .ensures) (c .before .before .before .before .before .before .before .before .before .decay-compensated .ensures) (c .before .before .before .before .before .before .wait-again .ensures)
-    (c .before .before .before .before .copy-ends .ensures) (c .before .before .copy-ends2 .ensures) (c .copy-ends3 .ensures)
-    ∙ after-quiet (a .settings) (a .t1) (long (c .before .before .before .before .before .before .before .before .before .before .before .before .before .before .before .before .before))
+    let start = c .before .before .before .before .before .before .before .before .before .before .before .before .before .before .before .before .before in
+    let a = start .args in
+    rested-is (a .settings) (a .t1) (c .before .before .before .before .before .before .before .before .before .before .before .before .before .before .before .lower-holds .ensures) (long start) (c .before .before .before .before .before .before .before .before .before .decay-compensated .ensures)
+    (c .before .before .before .before .before .before .wait-again .ensures) (c .before .before .before .before .copy-ends .ensures) (c .before .before .copy-ends2 .ensures) (c .copy-ends3 .ensures)
+    ∙ after-quiet (a .settings) (a .t1)
 
 pub decay-spec : {M : Type 1} → statement M
 decay-spec =

@@ -3,24 +3,23 @@ use borrow.Author.Tests.{eq-eqb, ne-eqb}
 use mathlib.Core.Logic.{⊎-elim}
 use mathlib.Core.Path.{_≡_, _∙_, ap, sym, subst}
 use Rattle.subband_erle_estimator.specs.declared.channel.SubbandChannel.{SubbandChannel}
-use Rattle.subband_erle_estimator.specs.Steps.{heardBy, convergedBy, restedBy}
-use Rattle.subband_erle_estimator.proofs.After.{Long, converged-long, after-converged}
-use Rattle.subband_erle_estimator.proofs.Records.{heard-is, converged-six, converged-few, rested-is}
+use Rattle.subband_erle_estimator.proofs.Parts.{Long}
+use Rattle.subband_erle_estimator.proofs.After.{heardBy, heard-is, convergedBy, converged-six, converged-few, converged-long, restedBy, rested-is, after-converged}
 use Rattle.subband_erle_estimator.proofs.channel.SubbandChannel.update.Statement.{statement}
 use Rattle.subband_erle_estimator.proofs.channel.SubbandChannel.update.Tie as tie
 
 long : (c : tie.Start) → Long (c .args .t1)
 long c =
     record {
-      plain = search needs;
-      compensated = search needs;
-      uncapped = search needs;
-      onset = search needs;
-      waits = search needs;
-      hold = search needs;
       capture = search needs;
       residual = search needs;
       low = search needs;
+      plain = search needs;
+      uncapped = search needs;
+      compensated = search needs;
+      onset = search needs;
+      waits = search needs;
+      hold = search needs;
     }
 
 -- the powers added, before the sixth point is asked for
@@ -42,15 +41,16 @@ heard :
     })
     (heardBy (a .x2 .now) (a .y2 .now) (a .e2 .now) (a .t1))
 heard c =
-    let a = c .before .before .before .before .before .before .before .before .before .before .args in
-    heard-is (a .x2 .now) (a .y2 .now) (a .e2 .now) (a .t1) (c .before .before .before .before .before .add-powers .ensures) (c .before .before .before .add-powers2 .ensures)
+    let start = c .before .before .before .before .before .before .before .before .before .before in
+    let a = start .args in
+    heard-is (a .x2 .now) (a .y2 .now) (a .e2 .now) (a .t1) (long start) (c .before .before .before .before .before .add-powers .ensures) (c .before .before .before .add-powers2 .ensures)
     (c .before .note-low-energy .ensures) (c .points-with .ensures)
 
 -- on a sixth point the record has learnt
 converged :
     (c : tie.Joined1)
     → let a = c .before .before .before .before .before .before .before .before .before .before .before .args in
-    c .if1 .self ≡ convergedBy (a .settings) (a .x2 .now) (a .y2 .now) (a .e2 .now) (a .t1)
+    c .if1 .self ≡ convergedBy (a .x2 .now) (a .y2 .now) (a .e2 .now) (a .t1) (a .settings)
 converged c =
     let a = c .before .before .before .before .before .before .before .before .before .before .before .args in
     ⊎-elim
@@ -65,7 +65,7 @@ note-low-energy-requires c κs = (long (c .before .before .before .before .befor
 whole : (c : tie.Joined1) → Long (c .if1 .self)
 whole c =
     let a = c .before .before .before .before .before .before .before .before .before .before .before .args in
-    subst Long (sym (converged c)) (converged-long (a .settings) (a .x2 .now) (a .y2 .now) (a .e2 .now) (a .t1) (long (c .before .before .before .before .before .before .before .before .before .before .before)))
+    subst Long (sym (converged c)) (converged-long (a .settings) (a .x2 .now) (a .y2 .now) (a .e2 .now) (a .t1))
 
 lower-holds-requires : tie.Need-lower-holds-requires
 lower-holds-requires c κs = whole (c .before) .hold
@@ -79,10 +79,11 @@ wait-again-requires c κs = whole (c .before .before .before .before .before .be
 returns : tie.Need-returns
 returns c =
     let a = c .before .before .before .before .before .before .before .before .before .before .before .before .before .before .before .before .before .before .before .before .before .before .before .before .before .before .before .before .args in
-    rested-is (a .settings) (c .before .before .before .before .before .before .before .before .before .before .before .before .before .before .before .before .before .if1 .self) (c .before .before .before .before .before .before .before .before .before .before .before .before .before .before .before .lower-holds .ensures) (c .before .before .before .before .before .before .before .before .before .decay-compensated .ensures) (c .before .before .before .before .before .before .wait-again .ensures)
-    (c .before .before .before .before .copy-ends .ensures) (c .before .before .copy-ends2 .ensures) (c .copy-ends3 .ensures)
-    ∙ ap (restedBy (a .settings)) (converged (c .before .before .before .before .before .before .before .before .before .before .before .before .before .before .before .before .before))
-    ∙ after-converged (a .settings) (a .x2 .now) (a .y2 .now) (a .e2 .now) (a .t1) (long (c .before .before .before .before .before .before .before .before .before .before .before .before .before .before .before .before .before .before .before .before .before .before .before .before .before .before .before .before))
+    let joined = c .before .before .before .before .before .before .before .before .before .before .before .before .before .before .before .before .before in
+    rested-is (a .settings) (joined .if1 .self) (c .before .before .before .before .before .before .before .before .before .before .before .before .before .before .before .lower-holds .ensures) (whole joined) (c .before .before .before .before .before .before .before .before .before .decay-compensated .ensures)
+    (c .before .before .before .before .before .before .wait-again .ensures) (c .before .before .before .before .copy-ends .ensures) (c .before .before .copy-ends2 .ensures) (c .copy-ends3 .ensures)
+    ∙ ap (restedBy (a .settings)) (converged joined)
+    ∙ after-converged (a .settings) (a .x2 .now) (a .y2 .now) (a .e2 .now) (a .t1)
 
 pub update-spec : {M : Type 1} → statement M
 update-spec =
