@@ -1,10 +1,11 @@
 -- The range that every figure keeps, over lists of calls.
 use mathlib.Core.Path.{_≡_}
 use mathlib.Core.Bool.{Bool, true, _&&_}
-use mathlib.Core.List.{List, [], _∷_}
+use mathlib.Core.List.{List}
 use Prim.Native.Nat.{ℕ, _<_}
 use lib.Ieee.{Float, nan, le}
 use lib.ListN.{getD}
+use Rattle.aec3_common.specs.Calls.{runBy}
 use Rattle.erl_bands.specs.Figure.{minErl, maxErl}
 use Rattle.erl_estimator.specs.declared.ErlEstimator.{ErlEstimator}
 use Rattle.erl_estimator.specs.Erl.{started, afterReset, updateAnswer}
@@ -21,8 +22,7 @@ after s reset = afterReset s
 
 -- each call takes up the state that the last one left
 unfoldable pub run : ErlEstimator → List Call → ErlEstimator
-run s [] = s
-run s (c ∷ cs) = run (after s c) cs
+run s calls = runBy after s calls
 
 -- a number, not below 0.01 nor above 1,000; a NaN fails
 abbrev pub inRange : Float → Bool
