@@ -26,7 +26,7 @@ use Rattle.aec3_common.proofs.Choices.{and-left, and-right}
 use Rattle.aec3_common.proofs.Rounding.{failed, holds, signed-number, Minus, infinite, finite, round-minus, minus-below, round-number, at-least-if-not-below, at-most-if-not-above}
 use Rattle.aec3_common.proofs.Tables.{getD-tab}
 use Rattle.erl_bands.specs.declared.figure.Figure.{Figure}
-use Rattle.erl_bands.specs.Figure.{minErl, maxErl, share, two32, learns, learnt, doubled, rested, afterBlock}
+use Rattle.erl_bands.specs.Figure.{minErl, maxErl, share, two32, learns, learntErl, learnt, doubled, rested, afterBlock}
 use Rattle.erl_estimator.specs.declared.ErlEstimator.{ErlEstimator}
 use Rattle.erl_estimator.specs.Erl.{bandAfter, reduced, started, withCount, counted, afterReset, learntFrom, updated, updateRefusal, updateAnswer}
 use Rattle.erl_estimator.specs.Range.{Call, update, reset, after, run, inRange, FiguresInRange}
@@ -179,12 +179,12 @@ twice-in-range x ok =
 -- ---- one figure
 
 learnt-in-range : (threshold render capture : Float) (f : Figure) → inRange (f .erl) ≡ true → inRange (learnt threshold render capture f .erl) ≡ true
-unfolding learnt
+unfolding learnt learntErl
 learnt-in-range threshold render capture f ok = go (learns threshold render capture (f .erl)) refl
   where
     go :
         (t : Bool) → learns threshold render capture (f .erl) ≡ t
-        → inRange ((cond t (record { erl = larger (moved (f .erl) (div binary32 capture render) share) minErl; hold = pos 1000 }) f) .erl) ≡ true
+        → inRange (cond t (larger (moved (f .erl) (div binary32 capture render) share) minErl) (f .erl)) ≡ true
     go true e =
         raised-in-range
         (landed (f .erl) (div binary32 capture render) (above-zero (f .erl) ok) (most (f .erl) ok)
