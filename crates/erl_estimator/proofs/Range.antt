@@ -29,7 +29,7 @@ use Rattle.erl_bands.specs.declared.figure.Figure.{Figure}
 use Rattle.erl_bands.specs.Figure.{minErl, maxErl, share, two32, learns, learntErl, learnt, doubled, rested, afterBlock}
 use Rattle.erl_estimator.specs.declared.ErlEstimator.{ErlEstimator}
 use Rattle.erl_estimator.specs.Erl.{bandAfter, reduced, started, withCount, counted, afterReset, learntFrom, updated, updateRefusal, updateAnswer}
-use Rattle.erl_estimator.specs.Range.{Call, update, reset, after, run, inRange, FiguresInRange}
+use Rattle.erl_estimator.specs.Range.{Call, update, reset, after, run, inRange, AllInRange, FiguresInRange}
 
 -- ---- a figure in range
 
@@ -207,11 +207,7 @@ after-in-range threshold render capture f ok =
 
 -- ---- the whole estimator
 
-record Kept (s : ErlEstimator) : Type 0 where
-  pub bands : (k : ℕ) → k < 65 → inRange (getD (s .erl) k nan) ≡ true
-  pub time : inRange (s .«erl_time_domain») ≡ true
-
-started-kept : (startup : ℕ) → Kept (started startup)
+started-kept : (startup : ℕ) → AllInRange (started startup)
 unfolding started
 started-kept startup =
     record {
@@ -219,10 +215,10 @@ started-kept startup =
       time = most-in-range;
     }
 
-count-kept : (s : ErlEstimator) (n : ℕ) → Kept s → Kept (withCount s n)
+count-kept : (s : ErlEstimator) (n : ℕ) → AllInRange s → AllInRange (withCount s n)
 count-kept s n k = record { bands = k .bands; time = k .time }
 
-learnt-kept : (s : ErlEstimator) (render capture : List Float) → Kept s → Kept (learntFrom s render capture)
+learnt-kept : (s : ErlEstimator) (render capture : List Float) → AllInRange s → AllInRange (learntFrom s render capture)
 unfolding learntFrom bandAfter
 learnt-kept s render capture kept =
     record {
@@ -238,29 +234,27 @@ learnt-kept s render capture kept =
 
 updated-kept :
     (s : ErlEstimator) (renders : ℕ) (converged : List Bool) (render capture : List Float)
-    → Kept s → Kept (updated s renders converged render capture)
+    → AllInRange s → AllInRange (updated s renders converged render capture)
 unfolding updated
 updated-kept s renders converged render capture kept =
     go (eqb (length (flagged 0 converged)) 0 || ltb (counted s .«blocks_since_reset») (s .«startup_phase_length_blocks»))
   where
-    same : Kept (counted s)
+    same : AllInRange (counted s)
     same = count-kept s (oneMore (s .«blocks_since_reset»)) kept
 
-    go : (t : Bool) → Kept (cond t (counted s) (learntFrom (counted s) (reduced render (tab renders (λ ch. ch))) (reduced capture (flagged 0 converged))))
+    go : (t : Bool) → AllInRange (cond t (counted s) (learntFrom (counted s) (reduced render (tab renders (λ ch. ch))) (reduced capture (flagged 0 converged))))
     go true = same
     go false = learnt-kept (counted s) (reduced render (tab renders (λ ch. ch))) (reduced capture (flagged 0 converged)) same
 
-after-kept : (s : ErlEstimator) (c : Call) → Kept s → Kept (after s c)
+after-kept : (s : ErlEstimator) (c : Call) → AllInRange s → AllInRange (after s c)
 unfolding after afterReset updateAnswer
 after-kept s (update captures renders converged render capture) kept = go (eqb (updateRefusal captures renders converged render capture) accepted)
   where
-    go : (t : Bool) → Kept (cond t (updated s renders converged render capture) s)
+    go : (t : Bool) → AllInRange (cond t (updated s renders converged render capture) s)
     go true = updated-kept s renders converged render capture kept
     go false = kept
 after-kept s reset kept = count-kept s 0 kept
 
-pub figures-in-range : FiguresInRange
+pub figures-in-range : (startup : ℕ) → FiguresInRange (started startup)
 unfolding FiguresInRange run
-figures-in-range startup calls =
-    let kept = run-keeps Kept after after-kept calls (started startup) (started-kept startup) in
-    (kept .bands, kept .time)
+figures-in-range startup calls = run-keeps AllInRange after after-kept calls (started startup) (started-kept startup)

@@ -8,7 +8,7 @@ use lib.ListN.{getD}
 use Rattle.aec3_common.specs.Calls.{runBy}
 use Rattle.erl_bands.specs.Figure.{minErl, maxErl}
 use Rattle.erl_estimator.specs.declared.ErlEstimator.{ErlEstimator}
-use Rattle.erl_estimator.specs.Erl.{started, afterReset, updateAnswer}
+use Rattle.erl_estimator.specs.Erl.{afterReset, updateAnswer}
 
 -- a call: an update with its counts, flags, renders and captures, whether it is accepted or not; or a reset
 pub data Call : Type 0 where
@@ -28,10 +28,12 @@ run s calls = runBy after s calls
 abbrev pub inRange : Float → Bool
 inRange x = le minErl x && le x maxErl
 
--- Claim: from any start, after any list of calls, the ERL of each of the 65 bands and the time-domain ERL are numbers from
--- 0.01 to 1,000.
-unfoldable pub FiguresInRange : Type 0
-FiguresInRange =
-    (startup : ℕ) (calls : List Call)
-    → let s = run (started startup) calls in
-    ((k : ℕ) → k < 65 → inRange (getD (s .erl) k nan) ≡ true) × (inRange (s .«erl_time_domain») ≡ true)
+-- the ERL of each of the 65 bands and the time-domain ERL
+pub record AllInRange (s : ErlEstimator) : Type 0 where
+  pub bands : (k : ℕ) → k < 65 → inRange (getD (s .erl) k nan) ≡ true
+  pub time : inRange (s .«erl_time_domain») ≡ true
+
+-- Claim, of the state that any start answers (`ErlEstimator::new` promises it): after any list of calls every ERL is a number
+-- from 0.01 to 1,000.
+unfoldable pub FiguresInRange : ErlEstimator → Type 0
+FiguresInRange start = (calls : List Call) → AllInRange (run start calls)

@@ -20,6 +20,7 @@ ghost use mathlib.Core.Path.{_≡_};
 ghost use Prim.Native.Nat.{_*_, _≤_, _<_};
 ghost use lib.ListN.{length};
 ghost use Rattle.erl_estimator.specs.Erl.{started, counted as Erl·counted, afterReset, learntFrom, updated as Erl·updated, updateAnswer};
+ghost use Rattle.erl_estimator.specs.Range.{FiguresInRange};
 
 pub struct ErlEstimator {
     pub erl: [f32; 65],
@@ -40,6 +41,7 @@ impl ErlEstimator {
     // A start. No call to it is turned away.
     pub fn new(startup_phase_length_blocks: u32) -> ErlEstimator
         ensures { λ r. ⌜ r ≡ started «startup_phase_length_blocks» ⌝ }
+        ensures { λ r. ⌜ FiguresInRange r ⌝ }
     {
         ErlEstimator {
             erl: [MAX_ERL; 65],
