@@ -13,7 +13,7 @@ use Rattle.aec3_common.specs.Lists.{tab, every}
 use Rattle.aec3_common.specs.Spectra.{part, innerBand, shownBand, endsCopied}
 use Rattle.aec3_common.proofs.Choices.{and-left, and-right}
 use Rattle.aec3_common.proofs.Every.{every-take, every-drop}
-use Rattle.aec3_common.proofs.Tables.{tab-is}
+use Rattle.aec3_common.proofs.Tables.{tab-is, tab-same}
 
 -- the part that code lends, from ch * 65 to 65 further on
 pub lent-part : (spectra : List Float) (ch : ℕ) → take (ch * 65 + 65 - ch * 65) (drop (ch * 65) spectra) ≡ part spectra ch
@@ -52,39 +52,39 @@ inner-shown k e = go (eqb k 0) refl (eqb k 64) refl
     go false f true g = absurd (omega (arith, eqb-true k 64 g, ltb-true k 64 (and-right (ltb 0 k) (ltb k 64) e)))
     go false f false g = refl
 
--- after the copying, each band shows its band's value
-pub ends-shown : (s : List Float) (k : ℕ) → length s ≡ 65 → k < 65 → getD (endsCopied s) k nan ≡ getD s (shownBand k) nan
-unfolding endsCopied
-ends-shown s k long h = go (eqb k 0) refl (eqb k 64) refl
-  where
-    go :
-        (a : Bool) → eqb k 0 ≡ a → (b : Bool) → eqb k 64 ≡ b
-        → getD (set (set s 0 (getD s 1 nan)) 64 (getD s 63 nan)) k nan ≡ getD s (cond a 1 (cond b 63 k)) nan
-    go true e b f =
-        let zero : k ≡ 0 = eqb-true k 0 e in
-        rw zero
-        (getD-set-other (set s 0 (getD s 1 nan)) 64 0 (getD s 63 nan) nan (λ q. omega arith)
-        ∙ getD-set-same s 0 (getD s 1 nan) nan (omega arith))
-    go false e true f =
-        let last : k ≡ 64 = eqb-true k 64 f in
-        rw last (getD-set-same (set s 0 (getD s 1 nan)) 64 (getD s 63 nan) nan (omega (arith, length-set s 0 (getD s 1 nan))))
-    go false e false f =
-        getD-set-other (set s 0 (getD s 1 nan)) 64 k (getD s 63 nan) nan (eqb-false k 64 f)
-        ∙ getD-set-other s 0 k (getD s 1 nan) nan (eqb-false k 0 e)
-
 pub shown-below : (k : ℕ) → k < 65 → shownBand k < 65
 shown-below k h =
     let few : ltb (shownBand k) 64 ≡ true = and-right (ltb 0 (shownBand k)) (ltb (shownBand k) 64) (shown-inner k h) in
     omega (arith, ltb-true (shownBand k) 64 few)
 
-length-ends : (s : List Float) → length s ≡ 65 → length (endsCopied s) ≡ 65
+-- bands 0 and 64 overwritten by 1 and 63
+pub ends-stored : (s : List Float) → set (set s 0 (getD s 1 nan)) 64 (getD s 63 nan) ≡ endsCopied s
 unfolding endsCopied
-length-ends s h = simp length-set h
+ends-stored s =
+    tab-is (length s) nan (λ k. getD s (shownBand k) nan) (set first 64 (getD s 63 nan)) (simp length-set)
+    (λ k h. go k h (eqb k 0) refl (eqb k 64) refl)
+  where
+    first : List Float
+    first = set s 0 (getD s 1 nan)
+
+    go :
+        (k : ℕ) → k < length s → (a : Bool) → eqb k 0 ≡ a → (b : Bool) → eqb k 64 ≡ b
+        → getD (set first 64 (getD s 63 nan)) k nan ≡ getD s (cond a 1 (cond b 63 k)) nan
+    go k h true e b f =
+        let zero : k ≡ 0 = eqb-true k 0 e in
+        rw zero
+        (getD-set-other first 64 0 (getD s 63 nan) nan (λ q. omega arith)
+        ∙ getD-set-same s 0 (getD s 1 nan) nan (omega arith))
+    go k h false e true f =
+        let last : k ≡ 64 = eqb-true k 64 f in
+        rw last (getD-set-same first 64 (getD s 63 nan) nan (omega (arith, length-set s 0 (getD s 1 nan))))
+    go k h false e false f =
+        getD-set-other first 64 k (getD s 63 nan) nan (eqb-false k 64 f)
+        ∙ getD-set-other s 0 k (getD s 1 nan) nan (eqb-false k 0 e)
 
 -- bands 0 and 64 copy 1 and 63, whatever they were: what bands 1 to 63 hold says what all show
 pub ends-are :
     (s : List Float) (f : ℕ → Float) → length s ≡ 65
     → ((k : ℕ) → k < 65 → innerBand k ≡ true → getD s k nan ≡ f k) → endsCopied s ≡ tab 65 (λ k. f (shownBand k))
-ends-are s f long at =
-    tab-is 65 nan (λ k. f (shownBand k)) (endsCopied s) (length-ends s long)
-    (λ k b. ends-shown s k long b ∙ at (shownBand k) (shown-below k b) (shown-inner k b))
+unfolding endsCopied
+ends-are s f long at = rw long (tab-same 65 nan _ _ (λ k b. at (shownBand k) (shown-below k b) (shown-inner k b)))

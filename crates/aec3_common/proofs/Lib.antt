@@ -12,3 +12,4 @@ pub mod Calls
 pub mod Rounding
 pub mod Numbers
 pub mod Fitting
+pub mod Cases

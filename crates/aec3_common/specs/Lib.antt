@@ -8,3 +8,4 @@ pub mod Settings
 pub mod Calls
 pub mod Constants
 pub mod Streams
+pub mod Cases

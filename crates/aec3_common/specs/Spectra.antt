@@ -4,7 +4,8 @@ use mathlib.Core.List.{List, [], _∷_}
 use Prim.Native.Nat.{ℕ, suc, _*_}
 use lib.Dec.{ltb, eqb}
 use lib.Ieee.{Float, nan, binary32, add}
-use lib.ListN.{getD, take, drop, set}
+use lib.ListN.{length, getD, take, drop}
+use Rattle.aec3_common.specs.Lists.{tab}
 use Rattle.aec3_common.specs.Binary32.{zero32, larger}
 
 -- a channel's 65 numbers: a part of the list that begins in the middle
@@ -23,9 +24,9 @@ innerBand k = ltb 0 k && ltb k 64
 abbrev pub shownBand : ℕ → ℕ
 shownBand k = cond (eqb k 0) 1 (cond (eqb k 64) 63 k)
 
--- bands 0 and 64 overwritten by 1 and 63
+-- a spectrum whose bands hold the figures that they show
 unfoldable pub endsCopied : List Float → List Float
-endsCopied s = set (set s 0 (getD s 1 nan)) 64 (getD s 63 nan)
+endsCopied s = tab (length s) (λ k. getD s (shownBand k) nan)
 
 -- the channels whose flag is set, counted from ch on
 unfoldable pub flagged : ℕ → List Bool → List ℕ

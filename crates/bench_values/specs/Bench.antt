@@ -40,7 +40,7 @@ sectionsRow given n blocks =
     let a = sectionsAnswer n blocks 0 in
     record { given = given; defined = a .refused ∷ cond (eqb (a .refused) 0) (take (suc n) (a .boundaries)) [] }
 
--- band 1 of an ERL estimator, by its bits, after a first block of render 2^26 and capture 0 in every band
+-- band 1 of an ERL estimator, by its bits, after a first block of render 2^26 and capture 0 in every band; 900 is 0x4461_0000
 abbrev pub erlRow : List ℕ → Row
 erlRow given =
     let a = updateAnswer (started 0) 1 1 (true ∷ []) (tab 65 (λ k. rounded (2 ^ 26))) (tab 65 (λ k. rounded 0)) in
@@ -57,7 +57,7 @@ table =
     ∷ ringRow (8 ∷ []) 5 0 (pos 6)
     ∷ sectionsRow (0 ∷ 0 ∷ 2 ∷ 6 ∷ 13 ∷ []) 3 13
     ∷ sectionsRow (3 ∷ []) 3 2
-    ∷ erlRow (0 ∷ toBits binary32 (rounded 900) ∷ [])
+    ∷ erlRow (0 ∷ 0x4461_0000 ∷ [])
     ∷ []
 
 -- Claim: in every row of the table the definitions give what document 01 gives.

@@ -10,8 +10,8 @@ use Rattle.aec3_common.specs.Lists.{tab}
 use Rattle.aec3_common.specs.Spectra.{innerBand}
 use Rattle.aec3_common.proofs.Tables.{tab-same, getD-tab}
 use Rattle.erl_bands.specs.declared.figure.Figure.{Figure}
-use Rattle.erl_bands.specs.Figure.{learnt, rested, afterBlock}
-use Rattle.erl_bands.specs.Steps.{newErl, learntErl, erlBy, holdBy}
+use Rattle.erl_bands.specs.Figure.{learntErl, learntHold, learnt, rested, afterBlock}
+use Rattle.erl_bands.specs.Steps.{newErl, erlBy, holdBy}
 
 -- plus infinity is below nothing
 never-below : (x : Float) → lt (inf false) x ≡ false
@@ -32,7 +32,7 @@ figureBy new erl hold = record { erl = erlBy new erl (holdBy new erl hold); hold
 pub figure-by :
     (render capture erl : Float) (hold : ℤ)
     → figureBy (newErl render capture) erl hold ≡ afterBlock energyThreshold render capture (record { erl = erl; hold = hold })
-unfolding erlBy learntErl holdBy newErl afterBlock rested learnt
+unfolding erlBy holdBy newErl afterBlock rested learnt learntErl learntHold
 figure-by render capture erl hold = go (lt energyThreshold render) refl (lt (div binary32 capture render) erl) refl
   where
     go :

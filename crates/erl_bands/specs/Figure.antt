@@ -25,12 +25,19 @@ two32 = ofBits binary32 0x4000_0000
 abbrev pub learns : Float → Float → Float → Float → Bool
 learns threshold render capture erl = lt threshold render && lt (div binary32 capture render) erl
 
--- then the ERL moves by 0.1 of the difference, not below 0.01, and its hold becomes 1,000
+-- where it learns, the ERL moves by 0.1 of the difference to the new one, not below 0.01
+unfoldable pub learntErl : Bool → Float → Float → Float
+learntErl learning new erl = cond learning (larger (moved erl new share) minErl) erl
+
+-- and its hold becomes 1,000
+unfoldable pub learntHold : Bool → ℤ → ℤ
+learntHold learning hold = cond learning (pos 1000) hold
+
+-- a figure that learns from capture/render, or does not
 unfoldable pub learnt : Float → Float → Float → Figure → Figure
 learnt threshold render capture f =
-    cond (learns threshold render capture (f .erl))
-    (record { erl = larger (moved (f .erl) (div binary32 capture render) share) minErl; hold = pos 1000 })
-    f
+    let learning = learns threshold render capture (f .erl) in
+    record { erl = learntErl learning (div binary32 capture render) (f .erl); hold = learntHold learning (f .hold) }
 
 -- the ERL beside a hold: at 0 or less it doubles, at most 1,000
 unfoldable pub doubled : ℤ → Float → Float

@@ -5,11 +5,11 @@ use Prim.Native.Nat.{suc, _-_}
 use lib.IntN.{ℤ, pos}
 use lib.Ieee.{Float, nan, binary32, div, lt}
 use lib.ListN.{getD}
-use Rattle.aec3_common.specs.Binary32.{zero32, one32, energyThreshold, larger, moved}
+use Rattle.aec3_common.specs.Binary32.{zero32, one32, energyThreshold}
 use Rattle.aec3_common.specs.Counts.{fallen}
 use Rattle.aec3_common.specs.Lists.{tab}
 use Rattle.aec3_common.specs.Spectra.{innerBand}
-use Rattle.erl_bands.specs.Figure.{share, minErl, doubled}
+use Rattle.erl_bands.specs.Figure.{learntErl, learntHold, doubled}
 
 -- capture/render where render is above T; elsewhere plus infinity, which is below no ERL
 unfoldable pub newErl : Float → Float → Float
@@ -20,15 +20,11 @@ newErls render capture = tab 65 (λ k. newErl (getD render k nan) (getD capture 
 
 -- a hold after the block
 unfoldable pub holdBy : Float → Float → ℤ → ℤ
-holdBy new erl hold = cond (lt new erl) (fallen (pos 1000)) (fallen hold)
-
--- an ERL that moves where the new one is below it
-unfoldable pub learntErl : Float → Float → Float
-learntErl new erl = cond (lt new erl) (larger (moved erl new share) minErl) erl
+holdBy new erl hold = fallen (learntHold (lt new erl) hold)
 
 -- an ERL after the block, beside its hold after it
 unfoldable pub erlBy : Float → Float → ℤ → Float
-erlBy new erl hold = doubled hold (learntErl new erl)
+erlBy new erl hold = doubled hold (learntErl (lt new erl) new erl)
 
 -- the holds of bands 1 to 63
 unfoldable pub holdsBy : List Float → List Float → List ℤ → List ℤ

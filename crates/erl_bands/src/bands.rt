@@ -5,7 +5,9 @@ use crate::figure::moved_down;
 use aec3_common::X2_BAND_ENERGY_THRESHOLD;
 use aec3_common::counts::fallen;
 ghost use mathlib.Core.Path.{_≡_};
-ghost use Rattle.erl_bands.specs.Steps.{newErl, newErls, learntErl, erlBy, holdBy, erlsBy, holdsBy};
+ghost use lib.Ieee.{lt};
+ghost use Rattle.erl_bands.specs.Figure.{learntErl};
+ghost use Rattle.erl_bands.specs.Steps.{newErl, newErls, erlBy, holdBy, erlsBy, holdsBy};
 
 // The ratio that a band learns from. Where render is not above the threshold it is infinite, which is below no ERL.
 fn new_erl(render: f32, capture: f32) -> f32
@@ -40,7 +42,7 @@ fn hold_after(new: f32, erl: f32, hold: i32) -> i32
 }
 
 fn learnt_erl(new: f32, erl: f32) -> f32
-    ensures { λ r. ⌜ r ≡ learntErl new erl ⌝ }
+    ensures { λ r. ⌜ r ≡ learntErl (lt new erl) new erl ⌝ }
 {
     if new < erl { moved_down(erl, new) } else { erl }
 }

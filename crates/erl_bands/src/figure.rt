@@ -6,9 +6,10 @@ use aec3_common::moved;
 use aec3_common::smaller;
 use aec3_common::spectra::sum;
 ghost use mathlib.Core.Path.{_≡_};
-ghost use Rattle.aec3_common.specs.Binary32.{sumThreshold, larger as Binary32·larger, moved as Binary32·moved};
+ghost use mathlib.Core.Bool.{true};
+ghost use Rattle.aec3_common.specs.Binary32.{sumThreshold};
 ghost use Rattle.aec3_common.specs.Spectra.{sum as Spectra·sum};
-ghost use Rattle.erl_bands.specs.Figure.{share, minErl, learns as Figure·learns, learnt as Figure·learnt, doubled as Figure·doubled, rested as Figure·rested, afterBlock};
+ghost use Rattle.erl_bands.specs.Figure.{learntErl, learns as Figure·learns, learnt as Figure·learnt, doubled as Figure·doubled, rested as Figure·rested, afterBlock};
 
 const MIN_ERL: f32 = 0.01;
 
@@ -29,7 +30,7 @@ fn learns(threshold: f32, render: f32, capture: f32, erl: f32) -> bool
 
 // The ERL moved towards a new one below it.
 pub fn moved_down(erl: f32, new: f32) -> f32
-    ensures { λ r. ⌜ r ≡ Binary32·larger (Binary32·moved erl new share) minErl ⌝ }
+    ensures { λ r. ⌜ r ≡ learntErl true new erl ⌝ }
 {
     larger(moved(erl, new, 0.1), MIN_ERL)
 }

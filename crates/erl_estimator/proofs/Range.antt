@@ -1,19 +1,16 @@
 -- Every figure keeps its range. What moves an ERL down lands below zero, and so at 0.01, or at no more than it was; what
 -- doubles it stops at 1,000. Neither turns on what the spectra hold.
 use mathlib.Core.Path.{_≡_, refl, sym, ap, _∙_, subst}
-use mathlib.Core.Bool.{Bool, true, false, not, cond, _&&_, false≢true}
-use mathlib.Core.List.{List, [], _∷_}
-use mathlib.Core.Logic.{_⊎_, inl, inr}
-use Prim.Native.Nat.{ℕ, suc, _+_, _-_, _*_, _≤_, _<_}
+use mathlib.Core.Bool.{Bool, true, false, not, cond, _||_, false≢true}
+use mathlib.Core.List.{List}
+use Prim.Native.Nat.{ℕ, _+_, _-_, _*_, _≤_, _<_}
 use native.Mathlib.Nat.{mul-pos, le-trans, sub-le, mul-one, mul-assoc, mul-le-mul-right, le-of-eq}
-use native.Mathlib.Omega.{arith}
-use borrow.Author.Tests.{lt-ltb, ltb-true}
 use lib.Dec.{T, T-not, ltb, eqb, lit<}
 use lib.IntN.{ℤ, pos, negsuc}
 use lib.Signed.{leZ}
 use lib.Ieee.{Float, nan, inf, fin, binary32, ofBits, up, down, round, add, sub, mul, div, neg, lt, le, isNan}
 use lib.Ieee.{sum as Ieee·sum}
-use lib.ListN.{getD}
+use lib.ListN.{length, getD}
 use lib.Ieee.Bits.{is-true}
 use lib.Ieee.Fits.{down-pos}
 use lib.Ieee.Order.{round-mono}
@@ -24,14 +21,15 @@ use Rattle.aec3_common.specs.Lists.{tab}
 use Rattle.aec3_common.specs.Refusal.{accepted}
 use Rattle.aec3_common.specs.Spectra.{shownBand, flagged, sum}
 use Rattle.aec3_common.proofs.Bands.{shown-below}
+use Rattle.aec3_common.proofs.Calls.{run-keeps}
 use Rattle.aec3_common.proofs.Choices.{and-left, and-right}
 use Rattle.aec3_common.proofs.Rounding.{failed, holds, signed-number, Minus, infinite, finite, round-minus, minus-below, round-number, at-least-if-not-below, at-most-if-not-above}
 use Rattle.aec3_common.proofs.Tables.{getD-tab}
 use Rattle.erl_bands.specs.declared.figure.Figure.{Figure}
-use Rattle.erl_bands.specs.Figure.{minErl, maxErl, share, two32, learns, learnt, doubled, rested, afterBlock}
+use Rattle.erl_bands.specs.Figure.{minErl, maxErl, share, two32, learns, learntErl, learnt, doubled, rested, afterBlock}
 use Rattle.erl_estimator.specs.declared.ErlEstimator.{ErlEstimator}
-use Rattle.erl_estimator.specs.Erl.{bandAfter, reduced, started, withCount, afterReset, learntFrom, processed, updated, updateRefusal, updateAnswer}
-use Rattle.erl_estimator.specs.Range.{Call, update, reset, after, run, inRange, FiguresInRange}
+use Rattle.erl_estimator.specs.Erl.{bandAfter, reduced, started, withCount, counted, afterReset, learntFrom, updated, updateRefusal, updateAnswer}
+use Rattle.erl_estimator.specs.Range.{Call, update, reset, after, run, inRange, AllInRange, FiguresInRange}
 
 -- ---- a figure in range
 
@@ -181,12 +179,12 @@ twice-in-range x ok =
 -- ---- one figure
 
 learnt-in-range : (threshold render capture : Float) (f : Figure) → inRange (f .erl) ≡ true → inRange (learnt threshold render capture f .erl) ≡ true
-unfolding learnt
+unfolding learnt learntErl
 learnt-in-range threshold render capture f ok = go (learns threshold render capture (f .erl)) refl
   where
     go :
         (t : Bool) → learns threshold render capture (f .erl) ≡ t
-        → inRange ((cond t (record { erl = larger (moved (f .erl) (div binary32 capture render) share) minErl; hold = pos 1000 }) f) .erl) ≡ true
+        → inRange (cond t (larger (moved (f .erl) (div binary32 capture render) share) minErl) (f .erl)) ≡ true
     go true e =
         raised-in-range
         (landed (f .erl) (div binary32 capture render) (above-zero (f .erl) ok) (most (f .erl) ok)
@@ -209,11 +207,7 @@ after-in-range threshold render capture f ok =
 
 -- ---- the whole estimator
 
-record Kept (s : ErlEstimator) : Type 0 where
-  pub bands : (k : ℕ) → k < 65 → inRange (getD (s .erl) k nan) ≡ true
-  pub time : inRange (s .«erl_time_domain») ≡ true
-
-started-kept : (startup : ℕ) → Kept (started startup)
+started-kept : (startup : ℕ) → AllInRange (started startup)
 unfolding started
 started-kept startup =
     record {
@@ -221,10 +215,10 @@ started-kept startup =
       time = most-in-range;
     }
 
-counted-kept : (s : ErlEstimator) (n : ℕ) → Kept s → Kept (withCount s n)
-counted-kept s n k = record { bands = k .bands; time = k .time }
+count-kept : (s : ErlEstimator) (n : ℕ) → AllInRange s → AllInRange (withCount s n)
+count-kept s n k = record { bands = k .bands; time = k .time }
 
-learnt-kept : (s : ErlEstimator) (render capture : List Float) → Kept s → Kept (learntFrom s render capture)
+learnt-kept : (s : ErlEstimator) (render capture : List Float) → AllInRange s → AllInRange (learntFrom s render capture)
 unfolding learntFrom bandAfter
 learnt-kept s render capture kept =
     record {
@@ -238,35 +232,29 @@ learnt-kept s render capture kept =
           (record { erl = s .«erl_time_domain»; hold = s .«hold_counter_time_domain» }) (kept .time);
     }
 
-processed-kept : (s : ErlEstimator) (channels : List ℕ) (renders : ℕ) (render capture : List Float) → Kept s → Kept (processed s channels renders render capture)
-unfolding processed
-processed-kept s [] renders render capture kept = kept
-processed-kept s (first ∷ others) renders render capture kept = go (ltb (s .«blocks_since_reset») (s .«startup_phase_length_blocks»))
+updated-kept :
+    (s : ErlEstimator) (renders : ℕ) (converged : List Bool) (render capture : List Float)
+    → AllInRange s → AllInRange (updated s renders converged render capture)
+unfolding updated
+updated-kept s renders converged render capture kept =
+    go (eqb (length (flagged 0 converged)) 0 || ltb (counted s .«blocks_since_reset») (s .«startup_phase_length_blocks»))
   where
-    go :
-        (t : Bool)
-        → Kept (cond t s (learntFrom s (reduced render (tab renders (λ ch. ch))) (reduced capture (first ∷ others))))
-    go true = kept
-    go false = learnt-kept s (reduced render (tab renders (λ ch. ch))) (reduced capture (first ∷ others)) kept
+    same : AllInRange (counted s)
+    same = count-kept s (oneMore (s .«blocks_since_reset»)) kept
 
-after-kept : (s : ErlEstimator) (c : Call) → Kept s → Kept (after s c)
-unfolding after afterReset updateAnswer updated
+    go : (t : Bool) → AllInRange (cond t (counted s) (learntFrom (counted s) (reduced render (tab renders (λ ch. ch))) (reduced capture (flagged 0 converged))))
+    go true = same
+    go false = learnt-kept (counted s) (reduced render (tab renders (λ ch. ch))) (reduced capture (flagged 0 converged)) same
+
+after-kept : (s : ErlEstimator) (c : Call) → AllInRange s → AllInRange (after s c)
+unfolding after afterReset updateAnswer
 after-kept s (update captures renders converged render capture) kept = go (eqb (updateRefusal captures renders converged render capture) accepted)
   where
-    go : (t : Bool) → Kept (cond t (updated s renders converged render capture) s)
-    go true =
-        processed-kept (withCount s (oneMore (s .«blocks_since_reset»))) (flagged 0 converged) renders render capture
-        (counted-kept s (oneMore (s .«blocks_since_reset»)) kept)
+    go : (t : Bool) → AllInRange (cond t (updated s renders converged render capture) s)
+    go true = updated-kept s renders converged render capture kept
     go false = kept
-after-kept s reset kept = counted-kept s 0 kept
+after-kept s reset kept = count-kept s 0 kept
 
-run-kept : (s : ErlEstimator) (calls : List Call) → Kept s → Kept (run s calls)
-unfolding run
-run-kept s [] kept = kept
-run-kept s (c ∷ cs) kept = run-kept (after s c) cs (after-kept s c kept)
-
-pub figures-in-range : FiguresInRange
-unfolding FiguresInRange
-figures-in-range startup calls =
-    let kept = run-kept (started startup) calls (started-kept startup) in
-    (kept .bands, kept .time)
+pub figures-in-range : (startup : ℕ) → FiguresInRange (started startup)
+unfolding FiguresInRange run
+figures-in-range startup calls = run-keeps AllInRange after after-kept calls (started startup) (started-kept startup)

@@ -1,35 +1,36 @@
 -- What an update comes to, by the converged channels and the startup count.
 use mathlib.Core.Path.{_≡_}
-use mathlib.Core.Bool.{Bool}
+use mathlib.Core.Bool.{Bool, false}
 use mathlib.Core.List.{List, [], _∷_}
 use Prim.Native.Nat.{ℕ, _≤_, _<_}
-use borrow.Author.Tests.{lt-ltb, le-ltb}
+use native.Mathlib.Omega.{arith}
+use borrow.Author.Tests.{lt-ltb, le-ltb, ne-eqb}
+use lib.Dec.{eqb}
 use lib.Ieee.{Float}
-use Rattle.aec3_common.specs.Counts.{oneMore}
+use lib.ListN.{length}
 use Rattle.aec3_common.specs.Lists.{tab}
 use Rattle.aec3_common.specs.Spectra.{flagged}
 use Rattle.erl_estimator.specs.declared.ErlEstimator.{ErlEstimator}
-use Rattle.erl_estimator.specs.Erl.{withCount, learntFrom, reduced, processed, updated}
-
--- the state with one block more counted
-abbrev pub counted : ErlEstimator → ErlEstimator
-counted s = withCount s (oneMore (s .«blocks_since_reset»))
+use Rattle.erl_estimator.specs.Erl.{counted, learntFrom, reduced, updated}
 
 module _ (s : ErlEstimator) (renders : ℕ) (flags : List Bool) (render capture : List Float) where
   pub updated-none : flagged 0 flags ≡ [] → counted s ≡ updated s renders flags render capture
-  unfolding updated processed
+  unfolding updated
   updated-none e = simp e
 
   module _ (first : ℕ) (others : List ℕ) (e : flagged 0 flags ≡ first ∷ others) where
+    some : eqb (length (first ∷ others)) 0 ≡ false
+    some = ne-eqb (length (first ∷ others)) 0 (λ q. omega arith)
+
     pub updated-below :
-        counted s .«blocks_since_reset» < counted s .«startup_phase_length_blocks»
+        counted s .«blocks_since_reset» < s .«startup_phase_length_blocks»
         → counted s ≡ updated s renders flags render capture
-    unfolding updated processed
-    updated-below h = simp (e, lt-ltb _ _ h)
+    unfolding updated
+    updated-below h = simp (e, some, lt-ltb _ _ h)
 
     pub updated-on :
-        counted s .«startup_phase_length_blocks» ≤ counted s .«blocks_since_reset»
+        s .«startup_phase_length_blocks» ≤ counted s .«blocks_since_reset»
         → learntFrom (counted s) (reduced render (tab renders (λ ch. ch))) (reduced capture (first ∷ others))
         ≡ updated s renders flags render capture
-    unfolding updated processed
-    updated-on h = simp (e, le-ltb _ _ h)
+    unfolding updated
+    updated-on h = simp (e, some, le-ltb _ _ h)

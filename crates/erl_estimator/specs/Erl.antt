@@ -1,5 +1,5 @@
 -- Echo return loss: the ERL of each band, and the time-domain ERL.
-use mathlib.Core.Bool.{Bool, cond, _&&_}
+use mathlib.Core.Bool.{Bool, cond, _&&_, _||_}
 use mathlib.Core.List.{List, [], _∷_, map}
 use Prim.Native.Nat.{ℕ, suc, _-_, _*_}
 use lib.Dec.{ltb, eqb}
@@ -53,6 +53,10 @@ withCount s n =
       «blocks_since_reset» = n;
     }
 
+-- the state with one block more counted
+abbrev pub counted : ErlEstimator → ErlEstimator
+counted s = withCount s (oneMore (s .«blocks_since_reset»))
+
 -- a reset clears the block count only
 unfoldable pub afterReset : ErlEstimator → ErlEstimator
 afterReset s = withCount s 0
@@ -79,18 +83,13 @@ learntFrom s render capture =
       «blocks_since_reset» = s .«blocks_since_reset»;
     }
 
--- Without a converged channel, or below the startup count, nothing moves. Otherwise converged captures and all renders are
--- reduced and every figure goes one block on.
-unfoldable pub processed : ErlEstimator → List ℕ → ℕ → List Float → List Float → ErlEstimator
-processed s [] renders render capture = s
-processed s (first ∷ others) renders render capture =
-    cond (ltb (s .«blocks_since_reset») (s .«startup_phase_length_blocks»)) s
-    (learntFrom s (reduced render (tab renders (λ ch. ch))) (reduced capture (first ∷ others)))
-
--- an accepted update counts one block first
+-- An accepted update counts one block. Without a converged channel, or below the startup count, nothing else happens. Otherwise
+-- converged captures and all renders are reduced and every figure goes one block on.
 unfoldable pub updated : ErlEstimator → ℕ → List Bool → List Float → List Float → ErlEstimator
 updated s renders converged render capture =
-    processed (withCount s (oneMore (s .«blocks_since_reset»))) (flagged 0 converged) renders render capture
+    let channels = flagged 0 converged in
+    cond (eqb (length channels) 0 || ltb (counted s .«blocks_since_reset») (s .«startup_phase_length_blocks»)) (counted s)
+    (learntFrom (counted s) (reduced render (tab renders (λ ch. ch))) (reduced capture channels))
 
 -- ---- calls turned away
 

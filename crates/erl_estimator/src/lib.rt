@@ -19,8 +19,8 @@ use reduce::reduced_from;
 ghost use mathlib.Core.Path.{_≡_};
 ghost use Prim.Native.Nat.{_*_, _≤_, _<_};
 ghost use lib.ListN.{length};
-ghost use Rattle.aec3_common.specs.Counts.{oneMore};
-ghost use Rattle.erl_estimator.specs.Erl.{started, afterReset, withCount, learntFrom, updated as Erl·updated, updateAnswer};
+ghost use Rattle.erl_estimator.specs.Erl.{started, counted as Erl·counted, afterReset, learntFrom, updated as Erl·updated, updateAnswer};
+ghost use Rattle.erl_estimator.specs.Range.{FiguresInRange};
 
 pub struct ErlEstimator {
     pub erl: [f32; 65],
@@ -41,6 +41,7 @@ impl ErlEstimator {
     // A start. No call to it is turned away.
     pub fn new(startup_phase_length_blocks: u32) -> ErlEstimator
         ensures { λ r. ⌜ r ≡ started «startup_phase_length_blocks» ⌝ }
+        ensures { λ r. ⌜ FiguresInRange r ⌝ }
     {
         ErlEstimator {
             erl: [MAX_ERL; 65],
@@ -122,7 +123,7 @@ impl ErlEstimator {
     }
 
     fn counted(mut self) -> ErlEstimator
-        ensures { λ r. ⌜ r ≡ withCount self (oneMore (self .«blocks_since_reset»)) ⌝ }
+        ensures { λ r. ⌜ r ≡ Erl·counted self ⌝ }
     {
         let n = one_more(self.blocks_since_reset);
         self.blocks_since_reset = n;

@@ -1,3 +1,4 @@
 mod Signed
 mod Refusals
 pub mod Walks
+pub mod Cases

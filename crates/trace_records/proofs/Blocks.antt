@@ -11,7 +11,8 @@ use Rattle.aec3_common.specs.Binary32.{zero32}
 use Rattle.aec3_common.specs.Lists.{tab}
 use Rattle.aec3_common.proofs.Tables.{length-tab, getD-tab}
 use Rattle.trace_records.specs.declared.records.Block.{Block}
-use Rattle.trace_records.specs.Records.{blockLength, flagsIn, spectrumAt, renderIn, spectraAt, captureIn, residualIn, inTable, tablesOf, blockIn}
+use Rattle.trace_records.specs.Records.{blockLength, flagsIn, spectrumAt, renderIn, spectraAt, captureIn, residualIn}
+use Rattle.trace_records.specs.Steps.{inTable, tablesOf, blockIn}
 
 -- ---- how long the lists are
 

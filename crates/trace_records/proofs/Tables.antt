@@ -13,7 +13,8 @@ use Rattle.aec3_common.specs.Lists.{tab}
 use Rattle.aec3_common.proofs.Choices.{cond-by}
 use Rattle.aec3_common.proofs.Tables.{length-tab, getD-tab, tab-is, Stored, stored-none, stored-more, stored-between}
 use Rattle.encoding.specs.Bytes.{byteAt, halfAt, wordAt}
-use Rattle.trace_records.specs.Records.{valueAt, spectrumAt, spectraAt, inTable, withSpectrum}
+use Rattle.trace_records.specs.Records.{valueAt, spectrumAt, spectraAt}
+use Rattle.trace_records.specs.Steps.{inTable, withSpectrum}
 
 -- ---- a table that begins with a list
 

@@ -1,3 +1,4 @@
 pub mod Frames
 pub mod Records
 pub mod Judge
+pub mod Steps

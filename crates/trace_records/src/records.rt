@@ -12,7 +12,8 @@ ghost use lib.Ieee.{binary32, ofBits};
 ghost use lib.ListN.{length};
 ghost use Rattle.aec3_common.specs.Binary32.{zero32};
 ghost use Rattle.encoding.specs.Bytes.{byteAt};
-ghost use Rattle.trace_records.specs.Records.{kindOf, isSet, blockLength, valueAt, settingsIn, startupIn, bandIn, delayChangedIn, flagsIn, spectrumAt, spectraAt, inTable, noBlock, blockIn, withSpectrum};
+ghost use Rattle.trace_records.specs.Records.{kindOf, isSet, blockLength, valueAt, settingsIn, startupIn, bandIn, delayChangedIn, flagsIn, spectrumAt, spectraAt};
+ghost use Rattle.trace_records.specs.Steps.{inTable, noBlock, blockIn, withSpectrum};
 
 pub const SETTINGS_KIND: u32 = 0x0001;
 

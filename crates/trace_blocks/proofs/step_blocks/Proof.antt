@@ -29,7 +29,8 @@ use Rattle.erle_estimator.specs.Parts.{fullbandSettings, subbandPart, fullbandP
 use Rattle.erle_estimator.specs.Erle.{Update, stateOk, counted, updated}
 use Rattle.erle_estimator.proofs.Judged.{subband-passed, fullband-passed}
 use Rattle.trace_records.specs.Frames.{lengthIn, recordIn}
-use Rattle.trace_records.specs.Records.{blockIn, flagsIn, renderIn, captureIn, residualIn}
+use Rattle.trace_records.specs.Records.{flagsIn, renderIn, captureIn, residualIn}
+use Rattle.trace_records.specs.Steps.{blockIn}
 use Rattle.trace_records.proofs.Framing.{framed-least}
 use Rattle.trace_records.proofs.Blocks.{Tables, block-tables, length-flags, length-render, length-capture, length-residual}
 use Rattle.trace_records.proofs.Judged.{BlockOk}

@@ -1,12 +1,10 @@
 use borrow.Author.Needs.{needs}
-use mathlib.Core.Path.{refl}
-use Rattle.aec3_common.specs.Spectra.{endsCopied}
+use Rattle.aec3_common.proofs.Bands.{ends-stored}
 use Rattle.aec3_common.proofs.spectra.copy_ends.Statement.{statement}
 use Rattle.aec3_common.proofs.spectra.copy_ends.Tie as tie
 
 returns : tie.Need-returns
-unfolding endsCopied
-returns c = refl
+returns c = ends-stored _
 
 pub copy-ends-spec : {M : Type 1} → statement M
 copy-ends-spec =

@@ -1,6 +1,6 @@
 use borrow.Author.Needs.{needs}
 use mathlib.Core.Path.{_∙_}
-use Rattle.erl_bands.specs.Steps.{learntErl}
+use Rattle.erl_bands.specs.Figure.{learntErl}
 use Rattle.erl_bands.proofs.bands.learnt_erl.Statement.{statement}
 use Rattle.erl_bands.proofs.bands.learnt_erl.Tie as tie
 

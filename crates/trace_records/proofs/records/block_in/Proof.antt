@@ -2,7 +2,8 @@
 use mathlib.Core.Path.{_∙_}
 use borrow.Author.Needs.{needs}
 use borrow.Author.Tests.{le-leb, lt-leb, eq-eqb, ne-eqb}
-use Rattle.trace_records.specs.Records.{renderIn, captureIn, residualIn, tablesOf, blockIn}
+use Rattle.trace_records.specs.Records.{renderIn, captureIn, residualIn}
+use Rattle.trace_records.specs.Steps.{tablesOf, blockIn}
 use Rattle.trace_records.proofs.records.block_in.Statement.{statement}
 use Rattle.trace_records.proofs.records.block_in.Tie as tie
 

@@ -1,6 +1,6 @@
 use mathlib.Core.Path.{refl}
 use Rattle.aec3_common.specs.Lists.{tab}
-use Rattle.trace_records.specs.Records.{inTable, tablesOf, noBlock}
+use Rattle.trace_records.specs.Steps.{inTable, tablesOf, noBlock}
 use Rattle.trace_records.proofs.records.no_block.Statement.{statement}
 use Rattle.trace_records.proofs.records.no_block.Tie as tie
 
