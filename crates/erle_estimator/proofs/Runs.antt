@@ -10,7 +10,7 @@ use Rattle.erle_estimator.specs.declared.ErleEstimator.{ErleEstimator}
 use Rattle.erle_estimator.specs.Parts.{signalSettings}
 use Rattle.erle_estimator.specs.Erle.{stateOk, stateRefusal, startAnswer, resetAnswer, updateAnswer}
 use Rattle.erle_estimator.specs.Runs.{Call, update, reset, answer, run, NeverBadState}
-use Rattle.erle_estimator.proofs.Judged.{judgedCall, judged-is}
+use Rattle.erle_estimator.proofs.Judged.{judged-is}
 use Rattle.erle_estimator.proofs.Good.{Good, good-ok, start-good, update-good, reset-good}
 
 answer-good : (s : ErleEstimator) (c : Call) → Good s → Good (answer s c .state)
@@ -20,7 +20,7 @@ answer-good s (reset delayChange) good = reset-good s delayChange good
 
 answer-not-20 : (s : ErleEstimator) (c : Call) → stateOk s ≡ true → answer s c .refused ≡ badState → ⊥
 unfolding answer updateAnswer resetAnswer stateRefusal
-answer-not-20 s (update u) ok e = update-not-20 (signalSettings (s .settings)) (judgedCall u) (rw ok at (judged-is s u ∙ e))
+answer-not-20 s (update u) ok e = update-not-20 (signalSettings (s .settings)) u (u .capture) (u .residual) (rw ok at (judged-is s u ∙ e))
 answer-not-20 s (reset delayChange) ok e = let never : _≡_ {A = ℕ} 0 20 = rw ok at e in omega arith
 
 pub never-bad-state : NeverBadState

@@ -1,6 +1,7 @@
 -- Lists of calls: the state that they leave is taken up again.
 use mathlib.Core.Path.{_≡_}
 use mathlib.Core.List.{List}
+use lib.Ieee.{Float}
 use Rattle.aec3_common.specs.Calls.{runBy}
 use Rattle.aec3_common.specs.Refusal.{accepted, badState}
 use Rattle.signal_dependent_erle_estimator.specs.declared.settings.SignalDependentSettings.{SignalDependentSettings}
@@ -8,14 +9,14 @@ use Rattle.signal_dependent_erle_estimator.specs.declared.SignalDependen
 use Rattle.signal_dependent_erle_estimator.specs.declared.SignalDependentAnswer.{SignalDependentAnswer}
 use Rattle.signal_dependent_erle_estimator.specs.SignalDependent.{Update, startAnswer, resetAnswer, updateAnswer}
 
--- a call, accepted or refused: an update or a reset
+-- a call, accepted or refused: an update, with the subband estimator's plain and compensated streams; or a reset
 pub data Call : Type 0 where
-  update : Update → Call
+  update : Update → List Float → List Float → Call
   reset : Call
 
 -- what it is answered with
 unfoldable pub answer : SignalDependentErleEstimator → Call → SignalDependentAnswer
-answer s (update u) = updateAnswer s u
+answer s (update u average averageCompensated) = updateAnswer s u average averageCompensated
 answer s reset = resetAnswer s
 
 -- each call takes up the state that the last one left; a refused one passes on what it got

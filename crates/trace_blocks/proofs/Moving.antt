@@ -30,7 +30,7 @@ use Rattle.fullband_erle_estimator.specs.Steps.{loudFor}
 use Rattle.fullband_erle_estimator.proofs.Updates.{channelOf as FullBand·channelOf}
 use Rattle.erle_estimator.specs.declared.ErleEstimator.{ErleEstimator}
 use Rattle.erle_estimator.specs.Parts.{subbandSettings, fullbandSettings, subbandPart, signalPart, fullbandPart}
-use Rattle.erle_estimator.specs.Erle.{Update, stateOk, signalUpdate, updated}
+use Rattle.erle_estimator.specs.Erle.{Update, stateOk, updated}
 use Rattle.erle_estimator.proofs.Judged.{subband-passed, signal-passed, fullband-passed}
 use Rattle.erle_estimator.proofs.Updates.{subbandOf, fullbandOf, fullband-is}
 
@@ -139,7 +139,10 @@ module _ (s : ErleEstimator) (u : Update) where
   moved-fullband = FullBand·updated (fullbandPart s) (u .converged) (u .render) (u .capture) (u .residual)
 
   -- with one section the signal-dependent part stays as it is
-  signal-stays : s .settings .«num_sections» ≡ 1 → SignalDependent·afterAccepted (signalPart s) (signalUpdate u moved) ≡ signalPart s
+  signal-stays :
+      s .settings .«num_sections» ≡ 1
+      → SignalDependent·afterAccepted (signalPart s) u (λ ch. Subband·channelAt moved ch .erle) (λ ch. Subband·channelAt moved ch .«erle_onset_compensated»)
+      ≡ signalPart s
   unfolding SignalDependent·afterAccepted
   signal-stays section = rw section
 

@@ -1,12 +1,10 @@
 -- The first loop judges the records, the second updates them, part by part. The measures are the channels left.
 use borrow.Author.Needs.{needs}
 use borrow.Author.Tests.{eq-eqb, ne-eqb, lt-ltb, le-ltb}
-use mathlib.Core.Path.{_≡_, refl, sym, ap, _∙_}
+use mathlib.Core.Path.{_≡_, sym, ap, _∙_}
 use mathlib.Core.Bool.{_&&_}
-use mathlib.Core.List.{List}
-use Prim.Native.Nat.{ℕ, _+_, _-_, _*_, _≤_, _<_}
+use Prim.Native.Nat.{ℕ, _-_, _≤_, _<_}
 use native.Mathlib.Omega.{arith}
-use lib.Ieee.{Float}
 use lib.ListN.{length}
 use Rattle.aec3_common.specs.Binary32.{greatestValue, within}
 use Rattle.aec3_common.specs.Settings.{headroomBlocks}
@@ -23,7 +21,7 @@ use Rattle.fullband_erle_estimator.proofs.Judged.{min-above, settings-passed as
 use Rattle.erle_estimator.specs.declared.ErleEstimator.{ErleEstimator}
 use Rattle.erle_estimator.specs.Parts.{signalSettings, fullbandSettings, subbandPart, signalPart, fullbandPart}
 use Rattle.erle_estimator.specs.Erle.{Update, stateOk, updateRefusal, counted, afterAccepted, updateAnswer}
-use Rattle.erle_estimator.proofs.Judged.{Walked, walked-none, walked-few, walked-more, walked-all, Accepted, accepted-call, judgedCall, judged-is, subband-passed, signal-passed, fullband-passed}
+use Rattle.erle_estimator.proofs.Judged.{Walked, walked-none, walked-few, walked-more, walked-all, Accepted, accepted-call, judged-is, subband-passed, signal-passed, fullband-passed}
 use Rattle.erle_estimator.proofs.Updates.{subbandOf, Updating, updating-none, updating-more, updating-all, streams-long, subband-is, signal-is, fullband-is}
 use Rattle.erle_estimator.proofs.ErleEstimator.update.Statement.{statement}
 use Rattle.erle_estimator.proofs.ErleEstimator.update.Tie as tie
@@ -230,9 +228,9 @@ signal-channel-requires c κs =
         eight-sections g (a .lent .state),
         λ many.
             rw
-            (active-at (signalPart s) (judgedCall (call start)) ch (found (c .before .before .before .before .before .before .before .before .before .before .before .before .before .before .before .before .before) many)
+            (active-at (signalPart s) (call start) ch (found (c .before .before .before .before .before .before .before .before .before .before .before .before .before .before .before .before .before) many)
             (omega (arith, inside (c .before .before .before .before .before .before .before .before .before .before .before .before), a .lent .counts, a .count)) (omega (arith, a .lent .counts, a .count, a .few)))
-            (active-within (signalPart s) (judgedCall (call start)) ch some),
+            (active-within (signalPart s) (call start) ch some),
       ),
       (long-capture, long-residual, long-average, long-compensated),
     )
