@@ -21,6 +21,7 @@ use Rattle.correction_factors.specs.Factors.{subbandSums}
 use Rattle.signal_dependent_erle_estimator.specs.declared.settings.SignalDependentSettings.{SignalDependentSettings}
 use Rattle.signal_dependent_erle_estimator.specs.declared.channel.SignalDependentChannel.{SignalDependentChannel}
 use Rattle.signal_dependent_erle_estimator.specs.declared.SignalDependentErleEstimator.{SignalDependentErleEstimator}
+use Rattle.signal_dependent_erle_estimator.specs.declared.SignalDependentAnswer.{SignalDependentAnswer}
 use Rattle.signal_dependent_erle_estimator.specs.Channel.{Lent, freshChannel, channelAfter}
 use Rattle.signal_dependent_erle_estimator.specs.SignalDependent.{Update, settingsRefusal, boundariesOf, sameFirst, channelOk, stateOk, stateRefusal, slotsReach, ringRefusal, allLengthsOk, allValuesOk, refusalOf, updateRefusal, started, startAnswer, resetAnswer, noChannel, channelAt, activeOf, lentTo, updated, afterAccepted, updateAnswer}
 use Rattle.signal_dependent_erle_estimator.specs.Runs.{Call, update, reset, answer, run, NeverBadState}
@@ -137,8 +138,14 @@ unfolding answer updateAnswer updateRefusal resetAnswer stateRefusal
 answer-not-20 s (update u average averageCompensated) ok e = update-not-20 (s .settings) u average averageCompensated (rw ok at e)
 answer-not-20 s reset ok e = let never : _≡_ {A = ℕ} 0 20 = rw ok at e in omega arith
 
-pub never-bad-state : NeverBadState
+pub never-bad-state : (g : SignalDependentSettings) → startAnswer g .refused ≡ accepted → NeverBadState (startAnswer g .state)
 unfolding NeverBadState startAnswer
-never-bad-state g calls next e =
+never-bad-state g e calls next =
     let s = run (startAnswer g .state) calls in
     answer-not-20 s next (state-ok g e s (run-kept g e calls))
+
+-- what a start answers with by the definition promises it
+pub start-promises :
+    (g : SignalDependentSettings) {r : SignalDependentAnswer} → r ≡ startAnswer g
+    → (r ≡ startAnswer g) × (r .refused ≡ accepted → NeverBadState (r .state))
+start-promises g same = (same, rw same (never-bad-state g))

@@ -20,7 +20,9 @@ ghost use mathlib.Core.Path.{_≡_};
 ghost use Prim.Native.Nat.{_≤_};
 ghost use lib.ListN.{take};
 ghost use Rattle.aec3_common.specs.Lists.{every};
+ghost use Rattle.aec3_common.specs.Refusal.{accepted};
 ghost use Rattle.aec3_common.specs.Spectra.{part as Spectra·part};
+ghost use Rattle.signal_dependent_erle_estimator.specs.Runs.{NeverBadState};
 ghost use Rattle.signal_dependent_erle_estimator.specs.Steps.{Passed};
 ghost use Rattle.signal_dependent_erle_estimator.specs.SignalDependent.{Update, sameFirst, boundariesOf, channelOk, stateOk, started as SignalDependent·started, updated as SignalDependent·updated, startAnswer, resetAnswer, updateAnswer};
 
@@ -75,9 +77,10 @@ fn started(settings: SignalDependentSettings) -> SignalDependentErleEstimator
 }
 
 impl SignalDependentErleEstimator {
-    // A start. 1, 2 and 3 are turned away, with a state that every later call turns away.
+    // A start. 1, 2 and 3 are turned away, with a state that every later call turns away. After an accepted start none does so under 20.
     pub fn new(settings: SignalDependentSettings) -> SignalDependentAnswer
         ensures { λ r. ⌜ r ≡ startAnswer settings ⌝ }
+        ensures { λ r. ⌜ (r .refused ≡ accepted → NeverBadState (r .state)) ⌝ }
     {
         let refused = settings.refusal();
         if refused == ACCEPTED {
