@@ -32,7 +32,7 @@ use Rattle.fullband_erle_estimator.specs.FullBand.{minLog2, noChannel as FullBa
 use Rattle.fullband_erle_estimator.specs.Steps.{loudFor}
 use Rattle.fullband_erle_estimator.proofs.Updates.{channelOf as FullBand·channelOf, heard-channel, quiet-channel as FullBand·quiet-channel}
 use Rattle.erle_estimator.specs.declared.ErleEstimator.{ErleEstimator}
-use Rattle.erle_estimator.specs.Parts.{subbandSettings, signalSettings, fullbandSettings, subbandPart, signalPart, fullbandPart}
+use Rattle.erle_estimator.specs.Parts.{subbandSettings, signalSettings, fullbandSettings, subbandPart, signalPart, fullbandPart, withRecords}
 use Rattle.erle_estimator.specs.Erle.{Update, updated}
 
 module _ (s : ErleEstimator) (converged : List Bool) (x y e : List Float) where
@@ -63,10 +63,7 @@ module _ (s : ErleEstimator) (converged : List Bool) (x y e : List Float) where
 
   -- What the loop has done at ch: the records before it are updated, in each part; the rest of the state stands.
   pub record Updating (active : List (List ℕ)) (renders : List Float) (r : ErleEstimator) (ch : ℕ) : Type 0 where
-    pub settings : r .settings ≡ s .settings
-    pub startup : r .«startup_phase_length_blocks» ≡ s .«startup_phase_length_blocks»
-    pub blocks : r .«blocks_since_reset» ≡ s .«blocks_since_reset»
-    pub boundaries : r .«section_boundaries_blocks» ≡ s .«section_boundaries_blocks»
+    rest : r ≡ withRecords s (s .«blocks_since_reset») (r .subband) (r .«signal_dependent») (r .fullband)
     pub subband : Stored 4 Subband·noChannel 0 (s .settings .«num_capture_channels») subbandOf (s .subband) (r .subband) ch
     pub signal :
         Stored 4 SignalDependent·noChannel 0 (s .settings .«num_capture_channels») (signalOf active renders) (s .«signal_dependent») (r .«signal_dependent») ch
@@ -78,10 +75,7 @@ module _ (s : ErleEstimator) (converged : List Bool) (x y e : List Float) where
       → (length (s .subband) ≡ 4) × (length (s .«signal_dependent») ≡ 4) × (length (s .fullband) ≡ 4) → Updating active renders s 0
   updating-none active renders (four, four-signal, four-fullband) =
       record {
-        settings = refl;
-        startup = refl;
-        blocks = refl;
-        boundaries = refl;
+        rest = refl;
         subband = stored-none _ _ _ _ _ (omega arith) four;
         signal = stored-none _ _ _ _ _ (omega arith) four-signal;
         fullband = stored-none _ _ _ _ _ (omega arith) four-fullband;
@@ -93,22 +87,13 @@ module _ (s : ErleEstimator) (converged : List Bool) (x y e : List Float) where
       → Updating active renders r ch → ch < s .settings .«num_capture_channels» → s .settings .«num_capture_channels» ≤ 4
       → c ≡ subbandOf ch → d ≡ signalOf active renders ch → f ≡ fullbandOf ch
       → Updating active renders
-      (record {
-        settings = r .settings;
-        «startup_phase_length_blocks» = r .«startup_phase_length_blocks»;
-        «blocks_since_reset» = r .«blocks_since_reset»;
-        «section_boundaries_blocks» = r .«section_boundaries_blocks»;
-        subband = set (r .subband) ch c;
-        «signal_dependent» = set (r .«signal_dependent») ch d;
-        fullband = set (r .fullband) ch f;
-      })
+      (withRecords r (r .«blocks_since_reset») (set (r .subband) ch c) (set (r .«signal_dependent») ch d) (set (r .fullband) ch f))
       (ch + 1)
-  updating-more {c = c} {d = d} {f = f} t h few subband signal fullband =
+  updating-more {r = r} {ch = ch} {c = c} {d = d} {f = f} t h few subband signal fullband =
       record {
-        settings = t .settings;
-        startup = t .startup;
-        blocks = t .blocks;
-        boundaries = t .boundaries;
+        rest =
+            λ i. withRecords (t .rest i) (t .rest i .«blocks_since_reset»)
+            (set (r .subband) ch c) (set (r .«signal_dependent») ch d) (set (r .fullband) ch f);
         subband = stored-more c (t .subband) h few subband;
         signal = stored-more d (t .signal) h few signal;
         fullband = stored-more f (t .fullband) h few fullband;
@@ -263,12 +248,4 @@ module _ (s : ErleEstimator) (u : Update) (few : s .settings .«num_capture_chan
           pub updating-all : r ≡ updated s u
           unfolding updated
           updating-all =
-              λ i. record {
-                settings = t .settings i;
-                «startup_phase_length_blocks» = t .startup i;
-                «blocks_since_reset» = t .blocks i;
-                «section_boundaries_blocks» = t .boundaries i;
-                subband = subband-all i;
-                «signal_dependent» = signal-all i;
-                fullband = fullband-all i;
-              }
+              t .rest ∙ (λ i. withRecords s (s .«blocks_since_reset») (subband-all i) (signal-all i) (fullband-all i))

@@ -21,7 +21,7 @@ use Rattle.fullband_erle_estimator.specs.FullBand.{stateOk as FullBand·stateOk
 use Rattle.erle_estimator.specs.declared.ErleEstimator.{ErleEstimator}
 use Rattle.erle_estimator.specs.declared.ErleAnswer.{ErleAnswer}
 use Rattle.erle_estimator.specs.declared.streams.ErleStreams.{ErleStreams}
-use Rattle.erle_estimator.specs.Parts.{subbandSettings, signalSettings, fullbandSettings, subbandPart, signalPart, fullbandPart}
+use Rattle.erle_estimator.specs.Parts.{subbandSettings, signalSettings, fullbandSettings, subbandPart, signalPart, fullbandPart, withRecords}
 -- what an update is lent, and numbers 5 and 6 of it
 pub use Rattle.signal_dependent_erle_estimator.specs.SignalDependent.{Update}
 unfoldable pub use Rattle.signal_dependent_erle_estimator.specs.SignalDependent.{lentLengthsOk, lentValuesOk}
@@ -103,16 +103,7 @@ resetAnswer s delayChange =
 
 -- one block more
 unfoldable pub counted : ErleEstimator → ErleEstimator
-counted s =
-    record {
-      settings = s .settings;
-      «startup_phase_length_blocks» = s .«startup_phase_length_blocks»;
-      «blocks_since_reset» = oneMore (s .«blocks_since_reset»);
-      «section_boundaries_blocks» = s .«section_boundaries_blocks»;
-      subband = s .subband;
-      «signal_dependent» = s .«signal_dependent»;
-      fullband = s .fullband;
-    }
+counted s = withRecords s (oneMore (s .«blocks_since_reset»)) (s .subband) (s .«signal_dependent») (s .fullband)
 
 -- The three parts in the Rust's order: the subband part; the signal-dependent part, lent each channel's subband streams after this
 -- update, which stays as it is with one section; the fullband part. (With onset detection off the Rust lends the plain stream twice; the
@@ -121,16 +112,9 @@ unfoldable pub updated : ErleEstimator → Update → ErleEstimator
 updated s u =
     let subband = Subband·updated (subbandPart s) (u .converged) (u .render) (u .capture) (u .residual) in
     let lent = Subband·channelAt subband in
-    record {
-      settings = s .settings;
-      «startup_phase_length_blocks» = s .«startup_phase_length_blocks»;
-      «blocks_since_reset» = s .«blocks_since_reset»;
-      «section_boundaries_blocks» = s .«section_boundaries_blocks»;
-      subband = subband .channels;
-      «signal_dependent» =
-          SignalDependent·afterAccepted (signalPart s) u (λ ch. lent ch .erle) (λ ch. lent ch .«erle_onset_compensated») .channels;
-      fullband = FullBand·updated (fullbandPart s) (u .converged) (u .render) (u .capture) (u .residual) .channels;
-    }
+    let signal = SignalDependent·afterAccepted (signalPart s) u (λ ch. lent ch .erle) (λ ch. lent ch .«erle_onset_compensated») in
+    let fullband = FullBand·updated (fullbandPart s) (u .converged) (u .render) (u .capture) (u .residual) in
+    withRecords s (s .«blocks_since_reset») (subband .channels) (signal .channels) (fullband .channels)
 
 -- Each accepted update counts one block first; if the count is then below the startup count, nothing else happens.
 unfoldable pub afterAccepted : ErleEstimator → Update → ErleEstimator

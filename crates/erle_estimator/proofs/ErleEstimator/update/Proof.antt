@@ -19,7 +19,7 @@ use Rattle.signal_dependent_erle_estimator.proofs.Updates.{active-at, active-wi
 use Rattle.fullband_erle_estimator.specs.FullBand.{minLog2}
 use Rattle.fullband_erle_estimator.proofs.Judged.{min-above, settings-passed as FullBand·settings-passed, channel-passed}
 use Rattle.erle_estimator.specs.declared.ErleEstimator.{ErleEstimator}
-use Rattle.erle_estimator.specs.Parts.{signalSettings, fullbandSettings, subbandPart, signalPart, fullbandPart}
+use Rattle.erle_estimator.specs.Parts.{signalSettings, fullbandSettings, subbandPart, signalPart, fullbandPart, withRecords}
 use Rattle.erle_estimator.specs.Erle.{Update, stateOk, updateRefusal, counted, afterAccepted, updateAnswer}
 use Rattle.erle_estimator.proofs.Judged.{Walked, walked-none, walked-few, walked-more, walked-all, Accepted, accepted-call, judged-is, subband-passed, signal-passed, fullband-passed}
 use Rattle.erle_estimator.proofs.Updates.{subbandOf, Updating, updating-none, updating-more, updating-all, streams-long, subband-is, signal-is, fullband-is}
@@ -182,15 +182,7 @@ subband-channel-requires c κs =
 abbrev from : tie.After-subband-channel Inv-loop μ-loop Inv-loop2 μ-loop2 → ErleEstimator
 from c =
     let s = c .before .before .before .before .before .before .before .before .before .before .before .before .before .before .before .before .before .before .before .before .before .before .before .before .before .before .before .before .before .before .before .before .before .args .t1 in
-    record {
-      settings = s .settings;
-      «startup_phase_length_blocks» = s .«startup_phase_length_blocks»;
-      «blocks_since_reset» = c .before .before .before .before .before .before .before .before .before .before .before .before .before .before .before .one-more .result;
-      «section_boundaries_blocks» = s .«section_boundaries_blocks»;
-      subband = s .subband;
-      «signal_dependent» = s .«signal_dependent»;
-      fullband = s .fullband;
-    }
+    withRecords s (c .before .before .before .before .before .before .before .before .before .before .before .before .before .before .before .one-more .result) (s .subband) (s .«signal_dependent») (s .fullband)
 
 moved-is :
     (c : tie.After-subband-channel Inv-loop μ-loop Inv-loop2 μ-loop2)
