@@ -1,7 +1,7 @@
 -- What a state keeps over any list of calls: what each part keeps of its own. So number 20 lets it pass.
 use mathlib.Core.Path.{_≡_}
 use mathlib.Core.Bool.{Bool, true}
-use Prim.Native.Nat.{ℕ, _*_}
+use Prim.Native.Nat.{ℕ}
 use borrow.Author.Tests.{eqb-true}
 use lib.Dec.{ltb, eqb}
 use Rattle.aec3_common.specs.declared.settings.ErleSettings.{ErleSettings}
@@ -16,8 +16,8 @@ use Rattle.signal_dependent_erle_estimator.proofs.Runs.{Kept as SignalKept, sta
 use Rattle.fullband_erle_estimator.specs.FullBand.{started as FullBand·started, updated as FullBand·updated}
 use Rattle.fullband_erle_estimator.proofs.Runs.{Kept as FullBandKept, started-kept as fullband-started, updated-kept as fullband-updated, state-ok as fullband-ok}
 use Rattle.erle_estimator.specs.declared.ErleEstimator.{ErleEstimator}
-use Rattle.erle_estimator.specs.Parts.{subbandSettings, signalSettings, fullbandSettings, subbandPart, signalPart, fullbandPart}
-use Rattle.erle_estimator.specs.Erle.{Update, stateOk, stateRefusal, updateRefusal, startedWith, startAnswer, blocksKept, resetAnswer, signalUpdate, counted, updated, afterAccepted, updateAnswer}
+use Rattle.erle_estimator.specs.Parts.{subbandSettings, signalSettings, fullbandSettings, subbandPart, signalPart, fullbandPart, withRecords}
+use Rattle.erle_estimator.specs.Erle.{Update, stateOk, stateRefusal, updateRefusal, startedWith, startAnswer, blocksKept, resetAnswer, counted, updated, afterAccepted, updateAnswer}
 use Rattle.erle_estimator.proofs.Judged.{signal-settings-passed, subband-settings-passed, fullband-settings-passed, subband-passed, fullband-passed, Accepted, accepted-call, fits}
 
 -- settings that pass, and what each part keeps
@@ -84,9 +84,9 @@ module _ (s : ErleEstimator) (u : Update) (a : Accepted s u) where
             cond-has
             (λ (r : SignalDependentErleEstimator).
             SignalKept (signalSettings g)
-            (record { settings = signalSettings g; «section_boundaries_blocks» = s .«section_boundaries_blocks»; channels = r .channels }))
+            (signalPart (withRecords s (s .«blocks_since_reset») (s .subband) (r .channels) (s .fullband))))
             (ltb 1 (g .«num_sections»))
-            (λ e. signal-updated (signalSettings g) (signal-settings-passed g (good .settings)) signal _ (good .signal))
+            (λ e. signal-updated (signalSettings g) (signal-settings-passed g (good .settings)) signal _ _ _ (good .signal))
             (λ e. good .signal);
         fullband =
             fullband-updated (fullbandSettings g) (fullband-settings-passed g (good .settings)) (fullbandPart s)

@@ -1,12 +1,10 @@
 -- What the judging of settings, of a state and of an update tells of the parts.
 use mathlib.Core.Path.{_≡_, refl, sym, ap, _∙_}
 use mathlib.Core.Bool.{Bool, true, false, cond, _&&_, true≢false}
-use mathlib.Core.List.{List}
 use Prim.Native.Nat.{ℕ, suc, _+_, _*_, _≤_, _<_}
 use native.Mathlib.Omega.{arith}
 use borrow.Author.Tests.{eq-eqb, ne-eqb, eqb-true}
 use lib.Dec.{eqb}
-use lib.Ieee.{Float}
 use lib.ListN.{length, getD, take}
 use Rattle.aec3_common.specs.declared.settings.ErleSettings.{ErleSettings}
 use Rattle.aec3_common.specs.Binary32.{valuesOk}
@@ -16,11 +14,10 @@ use Rattle.aec3_common.specs.Refusal.{unless, firstOf, accepted}
 use Rattle.aec3_common.specs.Settings.{headroomBlocks, settingsRefusal}
 use Rattle.aec3_common.proofs.Calls.{UpdateOk, first-passed}
 use Rattle.aec3_common.proofs.Every.{Tested, tested-none, tested-more}
-use Rattle.aec3_common.proofs.Choices.{and-left, and-right, each-of-three, each-of-four, passed, later-passed, first-of-passed}
-use Rattle.section_echoes.specs.Packed.{total}
+use Rattle.aec3_common.proofs.Choices.{each-of-three, each-of-four, passed, later-passed, first-of-passed}
 use Rattle.section_echoes.specs.Walk.{slotLength}
 use Rattle.subband_erle_estimator.specs.Subband.{settingsRefusal as Subband·settingsRefusal, channelOk as Subband·channelOk, noChannel as Subband·noChannel, stateOk as Subband·stateOk}
-use Rattle.signal_dependent_erle_estimator.specs.SignalDependent.{Update as SignalUpdate, settingsRefusal as SignalDependent·settingsRefusal, boundariesOf, sameFirst, channelOk as SignalDependent·channelOk, noChannel as SignalDependent·noChannel, stateOk as SignalDependent·stateOk, allLengthsOk, allValuesOk, responsesOk, ringRefusal, refusalOf, updateRefusal as SignalDependent·updateRefusal}
+use Rattle.signal_dependent_erle_estimator.specs.SignalDependent.{settingsRefusal as SignalDependent·settingsRefusal, boundariesOf, sameFirst, channelOk as SignalDependent·channelOk, noChannel as SignalDependent·noChannel, stateOk as SignalDependent·stateOk, allLengthsOk, allValuesOk, responsesOk, ringRefusal, refusalOf, updateRefusal as SignalDependent·updateRefusal}
 use Rattle.signal_dependent_erle_estimator.specs.Steps.{Passed}
 use Rattle.signal_dependent_erle_estimator.proofs.Judged.{few-captures, eight-sections, update-passed}
 use Rattle.fullband_channel.specs.Channel.{channelOk as FullBand·channelOk}
@@ -153,53 +150,48 @@ module _ (s : ErleEstimator) where
 
 -- ---- an update
 
+-- the captures and the residuals, of what is lent
+lengths-each :
+    (filterLength : ℕ) (u : Update) → lentLengthsOk filterLength u ≡ true
+    → (eqb (length (u .capture)) (u .channels * 65) ≡ true) × (eqb (length (u .residual)) (u .channels * 65) ≡ true)
+unfolding lentLengthsOk
+lengths-each filterLength u ok =
+    let first = lengthsOk (u .channels) (u .converged) (u .render) (u .capture) (u .residual) in
+    let (firsts, slots, responded) =
+    each-of-three first (eqb (length (u .spectra)) (u .ring .slots * slotLength (u .ring .channels)))
+    (responsesOk (u .channels) filterLength (u .counts) (u .responses)) ok in
+    let (flagged, rendered, captured, left) =
+    each-of-four (eqb (length (u .converged)) (u .channels)) (eqb (length (u .render)) 65) (eqb (length (u .capture)) (u .channels * 65)) (eqb (length (u .residual)) (u .channels * 65)) firsts in
+    (captured, left)
+
+values-each : (u : Update) → lentValuesOk u ≡ true → (valuesOk (u .capture) ≡ true) × (valuesOk (u .residual) ≡ true)
+unfolding lentValuesOk
+values-each u ok =
+    let (firsts, slots, responded) =
+    each-of-three (valuesInRange (u .render) (u .capture) (u .residual)) (valuesOk (u .spectra)) (valuesOk (u .responses)) ok in
+    let (rendered, captured, left) = each-of-three (valuesOk (u .render)) (valuesOk (u .capture)) (valuesOk (u .residual)) firsts in
+    (captured, left)
+
 -- tests that were made already change nothing
-lengths-again : (w x a c s r : Bool) → w && x && a && c && a && c && s && r ≡ w && x && a && c && s && r
-lengths-again true true true true s r = refl
-lengths-again true true true false s r = refl
-lengths-again true true false c s r = refl
-lengths-again true false a c s r = refl
-lengths-again false x a c s r = refl
+made-already : (t a b : Bool) → (t ≡ true → (a ≡ true) × (b ≡ true)) → t && a && b ≡ t
+made-already true a b each = simp (each refl .0, each refl .1)
+made-already false a b each = refl
 
-values-again : (x y e s r : Bool) → x && y && e && y && e && s && r ≡ x && y && e && s && r
-values-again true true true s r = refl
-values-again true true false s r = refl
-values-again true false e s r = refl
-values-again false y e s r = refl
-
--- the call as the signal-dependent part's judging sees it, with captures and residuals where it is lent two streams
-abbrev pub judgedCall : Update → SignalUpdate
-judgedCall u =
-    record {
-      channels = u .channels;
-      ring = u .ring;
-      spectra = u .spectra;
-      counts = u .counts;
-      responses = u .responses;
-      render = u .render;
-      capture = u .capture;
-      residual = u .residual;
-      average = u .capture;
-      averageCompensated = u .residual;
-      converged = u .converged;
-    }
-
-pub judged-is : (s : ErleEstimator) (u : Update) → refusalOf (stateOk s) (signalSettings (s .settings)) (judgedCall u) ≡ updateRefusal s u
-unfolding refusalOf updateRefusal allLengthsOk lentLengthsOk allValuesOk lentValuesOk
+-- the signal-dependent part's judging, handed captures and residuals where it is lent two streams
+pub judged-is :
+    (s : ErleEstimator) (u : Update)
+    → refusalOf (stateOk s) (signalSettings (s .settings)) u (u .capture) (u .residual) ≡ updateRefusal s u
+unfolding refusalOf updateRefusal allLengthsOk allValuesOk
 judged-is s u =
-    rw (
-      lengths-again (eqb (length (u .converged)) (u .channels)) (eqb (length (u .render)) 65) (eqb (length (u .capture)) (u .channels * 65))
-          (eqb (length (u .residual)) (u .channels * 65)) (eqb (length (u .spectra)) (u .ring .slots * slotLength (u .ring .channels)))
-          (responsesOk (u .channels) (s .settings .«filter_length_blocks») (u .counts) (u .responses)),
-      values-again (valuesOk (u .render)) (valuesOk (u .capture)) (valuesOk (u .residual)) (valuesOk (u .spectra)) (valuesOk (u .responses)),
-    )
+    let most = s .settings .«filter_length_blocks» in
+    rw (made-already (lentLengthsOk most u) _ _ (lengths-each most u), made-already (lentValuesOk u) _ _ (values-each u))
 
 -- an accepted update: each part passes, and all that is lent fits
 pub record Accepted (s : ErleEstimator) (u : Update) : Type 0 where
   pub state : stateOk s ≡ true
   pub count : u .channels ≡ s .settings .«num_capture_channels»
   pub few : s .settings .«num_capture_channels» ≤ 4
-  pub lent : Passed (signalPart s) (judgedCall u)
+  pub lent : Passed (signalPart s) u (u .capture) (u .residual)
   pub captureOk : valuesOk (u .capture) ≡ true
   pub residualOk : valuesOk (u .residual) ≡ true
 
@@ -222,15 +214,13 @@ module _ (s : ErleEstimator) (u : Update) (e : updateRefusal s u ≡ accepted) w
       (first-of-passed ring (unless lengths 5 last) (later-passed same 20 (firstOf ring (unless lengths 5 last)) (later-passed (stateOk s) 19 _ e)) .1))
 
   pub accepted-call : Accepted s u
-  unfolding lentValuesOk SignalDependent·updateRefusal
+  unfolding SignalDependent·updateRefusal
   accepted-call =
       let g = s .settings in
       let signal = signal-passed s state in
       let judged = judged-is s u ∙ e in
-      let lent : Passed (signalPart s) (judgedCall u) = update-passed (signalPart s) (judgedCall u) (rw signal (rw state at judged)) in
-      let three = valuesInRange (u .render) (u .capture) (u .residual) in
-      let firsts = and-left three (valuesOk (u .spectra)) (and-left (three && valuesOk (u .spectra)) (valuesOk (u .responses)) values) in
-      let (renderOk, captureOk, residualOk) = each-of-three (valuesOk (u .render)) (valuesOk (u .capture)) (valuesOk (u .residual)) firsts in
+      let lent = update-passed (signalPart s) u (u .capture) (u .residual) (rw signal (rw state at judged)) in
+      let (captureOk, residualOk) = values-each u values in
       record {
         state = state;
         count = lent .count;

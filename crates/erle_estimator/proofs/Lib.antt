@@ -1,5 +1,4 @@
 pub mod Judged
-pub mod Packed
 pub mod Updates
 pub mod Good
 pub mod Runs

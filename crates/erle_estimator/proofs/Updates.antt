@@ -1,10 +1,10 @@
 -- The loop over the channels in an update of the whole.
-use mathlib.Core.Path.{_≡_, refl, sym, ap, _∙_}
+use mathlib.Core.Path.{_≡_, refl, sym, _∙_}
 use mathlib.Core.Bool.{Bool, true, false, cond, _&&_}
 use mathlib.Core.List.{List, []}
 use Prim.Native.Nat.{ℕ, _+_, _≤_, _<_}
 use native.Mathlib.Omega.{arith}
-use borrow.Author.Tests.{lt-ltb, ltb-true}
+use borrow.Author.Tests.{ltb-true}
 use lib.Dec.{ltb}
 use lib.Ieee.{Float}
 use lib.ListN.{length, getD, set}
@@ -19,12 +19,12 @@ use Rattle.subband_erle_estimator.specs.declared.settings.SubbandSettings.{Subb
 use Rattle.subband_erle_estimator.specs.declared.channel.SubbandChannel.{SubbandChannel}
 use Rattle.subband_erle_estimator.specs.declared.SubbandErleEstimator.{SubbandErleEstimator}
 use Rattle.subband_erle_estimator.specs.Channel.{channelAfter as Subband·channelAfter}
-use Rattle.subband_erle_estimator.specs.Subband.{noChannel as Subband·noChannel, channelAt as Subband·channelAt, blockOf, updated as Subband·updated}
+use Rattle.subband_erle_estimator.specs.Subband.{noChannel as Subband·noChannel, channelAt as Subband·channelAt, updated as Subband·updated}
 use Rattle.subband_erle_estimator.proofs.Updates.{channelOf as Subband·channelOf}
 use Rattle.signal_dependent_erle_estimator.specs.declared.settings.SignalDependentSettings.{SignalDependentSettings}
 use Rattle.signal_dependent_erle_estimator.specs.declared.channel.SignalDependentChannel.{SignalDependentChannel}
 use Rattle.signal_dependent_erle_estimator.specs.Channel.{Lent, channelAfter as SignalDependent·channelAfter}
-use Rattle.signal_dependent_erle_estimator.specs.SignalDependent.{noChannel as SignalDependent·noChannel, channelAt as SignalDependent·channelAt, lentTo, activeOf, updated as SignalDependent·updated, afterAccepted as SignalDependent·afterAccepted}
+use Rattle.signal_dependent_erle_estimator.specs.SignalDependent.{noChannel as SignalDependent·noChannel, channelAt as SignalDependent·channelAt, lentTo, updated as SignalDependent·updated, afterAccepted as SignalDependent·afterAccepted}
 use Rattle.signal_dependent_erle_estimator.proofs.Updates.{active-at}
 use Rattle.fullband_channel.specs.declared.channel.FullBandChannel.{FullBandChannel}
 use Rattle.fullband_channel.specs.Channel.{withPoint, oneBlockLess}
@@ -32,9 +32,8 @@ use Rattle.fullband_erle_estimator.specs.FullBand.{minLog2, noChannel as FullBa
 use Rattle.fullband_erle_estimator.specs.Steps.{loudFor}
 use Rattle.fullband_erle_estimator.proofs.Updates.{channelOf as FullBand·channelOf, heard-channel, quiet-channel as FullBand·quiet-channel}
 use Rattle.erle_estimator.specs.declared.ErleEstimator.{ErleEstimator}
-use Rattle.erle_estimator.specs.Parts.{subbandSettings, signalSettings, fullbandSettings, subbandPart, signalPart, fullbandPart, streamsOf}
-use Rattle.erle_estimator.specs.Erle.{Update, signalUpdate, updated}
-use Rattle.erle_estimator.proofs.Packed.{stream-part}
+use Rattle.erle_estimator.specs.Parts.{subbandSettings, signalSettings, fullbandSettings, subbandPart, signalPart, fullbandPart, withRecords}
+use Rattle.erle_estimator.specs.Erle.{Update, updated}
 
 module _ (s : ErleEstimator) (converged : List Bool) (x y e : List Float) where
   -- the subband record of a channel after the update, and the fullband one
@@ -64,10 +63,7 @@ module _ (s : ErleEstimator) (converged : List Bool) (x y e : List Float) where
 
   -- What the loop has done at ch: the records before it are updated, in each part; the rest of the state stands.
   pub record Updating (active : List (List ℕ)) (renders : List Float) (r : ErleEstimator) (ch : ℕ) : Type 0 where
-    pub settings : r .settings ≡ s .settings
-    pub startup : r .«startup_phase_length_blocks» ≡ s .«startup_phase_length_blocks»
-    pub blocks : r .«blocks_since_reset» ≡ s .«blocks_since_reset»
-    pub boundaries : r .«section_boundaries_blocks» ≡ s .«section_boundaries_blocks»
+    rest : r ≡ withRecords s (s .«blocks_since_reset») (r .subband) (r .«signal_dependent») (r .fullband)
     pub subband : Stored 4 Subband·noChannel 0 (s .settings .«num_capture_channels») subbandOf (s .subband) (r .subband) ch
     pub signal :
         Stored 4 SignalDependent·noChannel 0 (s .settings .«num_capture_channels») (signalOf active renders) (s .«signal_dependent») (r .«signal_dependent») ch
@@ -79,10 +75,7 @@ module _ (s : ErleEstimator) (converged : List Bool) (x y e : List Float) where
       → (length (s .subband) ≡ 4) × (length (s .«signal_dependent») ≡ 4) × (length (s .fullband) ≡ 4) → Updating active renders s 0
   updating-none active renders (four, four-signal, four-fullband) =
       record {
-        settings = refl;
-        startup = refl;
-        blocks = refl;
-        boundaries = refl;
+        rest = refl;
         subband = stored-none _ _ _ _ _ (omega arith) four;
         signal = stored-none _ _ _ _ _ (omega arith) four-signal;
         fullband = stored-none _ _ _ _ _ (omega arith) four-fullband;
@@ -94,22 +87,13 @@ module _ (s : ErleEstimator) (converged : List Bool) (x y e : List Float) where
       → Updating active renders r ch → ch < s .settings .«num_capture_channels» → s .settings .«num_capture_channels» ≤ 4
       → c ≡ subbandOf ch → d ≡ signalOf active renders ch → f ≡ fullbandOf ch
       → Updating active renders
-      (record {
-        settings = r .settings;
-        «startup_phase_length_blocks» = r .«startup_phase_length_blocks»;
-        «blocks_since_reset» = r .«blocks_since_reset»;
-        «section_boundaries_blocks» = r .«section_boundaries_blocks»;
-        subband = set (r .subband) ch c;
-        «signal_dependent» = set (r .«signal_dependent») ch d;
-        fullband = set (r .fullband) ch f;
-      })
+      (withRecords r (r .«blocks_since_reset») (set (r .subband) ch c) (set (r .«signal_dependent») ch d) (set (r .fullband) ch f))
       (ch + 1)
-  updating-more {c = c} {d = d} {f = f} t h few subband signal fullband =
+  updating-more {r = r} {ch = ch} {c = c} {d = d} {f = f} t h few subband signal fullband =
       record {
-        settings = t .settings;
-        startup = t .startup;
-        blocks = t .blocks;
-        boundaries = t .boundaries;
+        rest =
+            λ i. withRecords (t .rest i) (t .rest i .«blocks_since_reset»)
+            (set (r .subband) ch c) (set (r .«signal_dependent») ch d) (set (r .fullband) ch f);
         subband = stored-more c (t .subband) h few subband;
         signal = stored-more d (t .signal) h few signal;
         fullband = stored-more f (t .fullband) h few fullband;
@@ -187,26 +171,22 @@ module _ (s : ErleEstimator) (u : Update) (few : s .settings .«num_capture_chan
   unfolding Subband·updated Subband·channelOf
   moved-at ch h = getD-tab-first 4 (s .settings .«num_capture_channels») _ (Subband·channelAt (subbandPart s)) ch Subband·noChannel few h
 
-  -- a stream of a channel, among those of all
-  own-stream :
-      (stream : SubbandChannel → List Float) (ch : ℕ) → ch < s .settings .«num_capture_channels» → length (stream (own ch)) ≡ 65
-      → stream (own ch) ≡ part (streamsOf stream moved) ch
-  unfolding Subband·updated
-  own-stream stream ch h long =
-      let same = moved-at ch h in
-      sym (stream-part stream moved ch h (ap (λ (c : SubbandChannel). length (stream c)) same ∙ long) ∙ ap stream same)
+  abbrev plain : ℕ → List Float
+  plain ch = Subband·channelAt moved ch .erle
+
+  abbrev compensated : ℕ → List Float
+  compensated ch = Subband·channelAt moved ch .«erle_onset_compensated»
 
   -- a channel is lent its own streams
-  lent-is : (ch : ℕ) → ch < s .settings .«num_capture_channels» → lentOf s (u .converged) (u .render) (u .capture) (u .residual) ch ≡ lentTo (signalUpdate u moved) ch
-  unfolding signalUpdate
+  lent-is : (ch : ℕ) → ch < s .settings .«num_capture_channels» → lentOf s (u .converged) (u .render) (u .capture) (u .residual) ch ≡ lentTo u plain compensated ch
   lent-is ch h =
-      let (long, long-compensated) = streams-long s (u .converged) (u .render) (u .capture) (u .residual) ch in
+      let same = sym (moved-at ch h) in
       λ i. record {
         converged = getD (u .converged) ch false;
         capture = part (u .capture) ch;
         residual = part (u .residual) ch;
-        average = own-stream (λ c. c .erle) ch h long i;
-        averageCompensated = own-stream (λ c. c .«erle_onset_compensated») ch h long-compensated i;
+        average = same i .erle;
+        averageCompensated = same i .«erle_onset_compensated»;
       }
 
   module _
@@ -230,8 +210,8 @@ module _ (s : ErleEstimator) (u : Update) (few : s .settings .«num_capture_chan
           ≡ allActive (u .ring) (u .spectra) (headroomBlocks (s .settings .«delay_headroom_samples»)) (s .«section_boundaries_blocks») (s .settings .«num_sections») (u .counts) (u .responses))
           (summed : 1 < s .settings .«num_sections» → renders ≡ subbandSums (u .render))
         where
-          signal-all : r .«signal_dependent» ≡ SignalDependent·afterAccepted (signalPart s) (signalUpdate u moved) .channels
-          unfolding SignalDependent·afterAccepted SignalDependent·updated signalUpdate
+          signal-all : r .«signal_dependent» ≡ SignalDependent·afterAccepted (signalPart s) u plain compensated .channels
+          unfolding SignalDependent·afterAccepted SignalDependent·updated
           signal-all = stored-firsts (t .signal) over ∙ go (ltb 1 (s .settings .«num_sections»)) refl
             where
               held : ℕ → SignalDependentChannel
@@ -250,7 +230,7 @@ module _ (s : ErleEstimator) (u : Update) (few : s .settings .«num_capture_chan
                   (SignalDependent·channelAfter (signalSettings (s .settings)) (getD active j []) renders (lentOf s (u .converged) (u .render) (u .capture) (u .residual) j) (held j))
                   (held j))
                   (held j))
-                  ≡ cond b (SignalDependent·updated (signalPart s) (signalUpdate u moved)) (signalPart s) .channels
+                  ≡ cond b (SignalDependent·updated (signalPart s) u plain compensated) (signalPart s) .channels
               go true many =
                   let sections = ltb-true 1 (s .settings .«num_sections») many in
                   tab-same 4 SignalDependent·noChannel _ _
@@ -258,7 +238,7 @@ module _ (s : ErleEstimator) (u : Update) (few : s .settings .«num_capture_chan
                   cond-same (ltb j (s .settings .«num_capture_channels»)) (held j)
                   (λ q.
                   let h = ltb-true j (s .settings .«num_capture_channels») q in
-                  rw (active-at (signalPart s) (signalUpdate u moved) j (found sections) (omega arith) (omega arith), summed sections, lent-is j h)))
+                  rw (active-at (signalPart s) u j (found sections) (omega arith) (omega arith), summed sections, lent-is j h)))
               go false many =
                   sym
                   (tab-is 4 SignalDependent·noChannel _ (s .«signal_dependent») four
@@ -268,12 +248,4 @@ module _ (s : ErleEstimator) (u : Update) (few : s .settings .«num_capture_chan
           pub updating-all : r ≡ updated s u
           unfolding updated
           updating-all =
-              λ i. record {
-                settings = t .settings i;
-                «startup_phase_length_blocks» = t .startup i;
-                «blocks_since_reset» = t .blocks i;
-                «section_boundaries_blocks» = t .boundaries i;
-                subband = subband-all i;
-                «signal_dependent» = signal-all i;
-                fullband = fullband-all i;
-              }
+              t .rest ∙ (λ i. withRecords s (s .«blocks_since_reset») (subband-all i) (signal-all i) (fullband-all i))

@@ -1,24 +1,19 @@
 -- The whole ERLE estimator: start, update and reset, its figures, and the calls that are turned away.
 use mathlib.Core.Bool.{Bool, true, false, cond, _&&_}
 use mathlib.Core.List.{List}
-use Prim.Native.Nat.{ℕ, _*_}
+use Prim.Native.Nat.{ℕ}
 use lib.Dec.{ltb, eqb}
 use lib.Ieee.{Float}
-use lib.ListN.{length}
 use Rattle.aec3_common.specs.declared.settings.ErleSettings.{ErleSettings}
-use Rattle.aec3_common.specs.Binary32.{zero32, valuesOk}
-use Rattle.aec3_common.specs.Calls.{lengthsOk, valuesInRange}
+use Rattle.aec3_common.specs.Binary32.{zero32}
 use Rattle.aec3_common.specs.Counts.{oneMore}
 use Rattle.aec3_common.specs.Refusal.{unless, firstOf, accepted, badLength, badValue, badState, otherChannelCount}
 use Rattle.aec3_common.specs.Settings.{headroomBlocks, settingsRefusal}
 use Rattle.aec3_common.specs.Streams.{erleOf}
-use Rattle.section_echoes.specs.declared.RenderRing.{RenderRing}
-use Rattle.section_echoes.specs.Walk.{slotLength}
 use Rattle.subband_erle_estimator.specs.declared.channel.SubbandChannel.{SubbandChannel}
-use Rattle.subband_erle_estimator.specs.declared.SubbandErleEstimator.{SubbandErleEstimator}
-use Rattle.subband_erle_estimator.specs.Subband.{stateOk as Subband·stateOk, started as Subband·started, updated as Subband·updated}
+use Rattle.subband_erle_estimator.specs.Subband.{channelAt as Subband·channelAt, stateOk as Subband·stateOk, started as Subband·started, updated as Subband·updated}
 use Rattle.signal_dependent_erle_estimator.specs.declared.channel.SignalDependentChannel.{SignalDependentChannel}
-use Rattle.signal_dependent_erle_estimator.specs.SignalDependent.{Update as SignalUpdate, stateOk as SignalDependent·stateOk, ringRefusal, responsesOk, boundariesOf, started as SignalDependent·started, afterAccepted as SignalDependent·afterAccepted}
+use Rattle.signal_dependent_erle_estimator.specs.SignalDependent.{stateOk as SignalDependent·stateOk, ringRefusal, boundariesOf, started as SignalDependent·started, afterAccepted as SignalDependent·afterAccepted}
 use Rattle.fullband_channel.specs.declared.instantaneous.OptionalNumber.the-variants.{Absent}
 use Rattle.fullband_erle_estimator.specs.declared.FullBandFigure.{FullBandFigure}
 use Rattle.fullband_erle_estimator.specs.declared.QualityAnswer.{QualityAnswer}
@@ -26,21 +21,10 @@ use Rattle.fullband_erle_estimator.specs.FullBand.{stateOk as FullBand·stateOk
 use Rattle.erle_estimator.specs.declared.ErleEstimator.{ErleEstimator}
 use Rattle.erle_estimator.specs.declared.ErleAnswer.{ErleAnswer}
 use Rattle.erle_estimator.specs.declared.streams.ErleStreams.{ErleStreams}
-use Rattle.erle_estimator.specs.Parts.{subbandSettings, signalSettings, fullbandSettings, subbandPart, signalPart, fullbandPart, streamsOf}
-
--- What an update is lent: the call's channel count; the ring and its spectra; the number of response blocks of each channel and the
--- responses, packed; the render power that the parts look at, 65 numbers for all channels, apart from the ring's; capture and residual
--- power, 65 numbers for each channel, packed; the flags.
-pub record Update : Type 0 where
-  pub channels : ℕ
-  pub ring : RenderRing
-  pub spectra : List Float
-  pub counts : List ℕ
-  pub responses : List Float
-  pub render : List Float
-  pub capture : List Float
-  pub residual : List Float
-  pub converged : List Bool
+use Rattle.erle_estimator.specs.Parts.{subbandSettings, signalSettings, fullbandSettings, subbandPart, signalPart, fullbandPart, withRecords}
+-- what an update is lent, and numbers 5 and 6 of it
+pub use Rattle.signal_dependent_erle_estimator.specs.SignalDependent.{Update}
+unfoldable pub use Rattle.signal_dependent_erle_estimator.specs.SignalDependent.{lentLengthsOk, lentValuesOk}
 
 -- ---- calls turned away
 
@@ -51,17 +35,6 @@ stateOk s = Subband·stateOk (subbandPart s) && SignalDependent·stateOk (signal
 -- a reset and the readers of the whole state are turned away under 20 alone
 unfoldable pub stateRefusal : ErleEstimator → ℕ
 stateRefusal s = unless (stateOk s) badState accepted
-
--- number 5, of all that is lent
-unfoldable pub lentLengthsOk : ℕ → Update → Bool
-lentLengthsOk filterLength u =
-    lengthsOk (u .channels) (u .converged) (u .render) (u .capture) (u .residual)
-    && eqb (length (u .spectra)) (u .ring .slots * slotLength (u .ring .channels))
-    && responsesOk (u .channels) filterLength (u .counts) (u .responses)
-
--- number 6, of all that is lent
-unfoldable pub lentValuesOk : Update → Bool
-lentValuesOk u = valuesInRange (u .render) (u .capture) (u .residual) && valuesOk (u .spectra) && valuesOk (u .responses)
 
 -- The first of 20, 21, 2, 4, 9, 5 and 6, or 0. 2 is of the ring's render channels, since 21 has judged the capture channels; 1 and 3
 -- are in 20; 8 does not arise, as 4 judges the only offset.
@@ -128,51 +101,20 @@ resetAnswer s delayChange =
       refused = n;
     }
 
--- What the signal-dependent part is lent: what the call is lent, and the subband part's streams after this update. (With onset
--- detection off the Rust lends the plain one twice; the part then reads no compensated one.)
-unfoldable pub signalUpdate : Update → SubbandErleEstimator → SignalUpdate
-signalUpdate u subband =
-    record {
-      channels = u .channels;
-      ring = u .ring;
-      spectra = u .spectra;
-      counts = u .counts;
-      responses = u .responses;
-      render = u .render;
-      capture = u .capture;
-      residual = u .residual;
-      average = streamsOf (λ c. c .erle) subband;
-      averageCompensated = streamsOf (λ c. c .«erle_onset_compensated») subband;
-      converged = u .converged;
-    }
-
 -- one block more
 unfoldable pub counted : ErleEstimator → ErleEstimator
-counted s =
-    record {
-      settings = s .settings;
-      «startup_phase_length_blocks» = s .«startup_phase_length_blocks»;
-      «blocks_since_reset» = oneMore (s .«blocks_since_reset»);
-      «section_boundaries_blocks» = s .«section_boundaries_blocks»;
-      subband = s .subband;
-      «signal_dependent» = s .«signal_dependent»;
-      fullband = s .fullband;
-    }
+counted s = withRecords s (oneMore (s .«blocks_since_reset»)) (s .subband) (s .«signal_dependent») (s .fullband)
 
--- The three parts in the Rust's order: the subband part, with its new streams the signal-dependent part, which stays as it is with one
--- section, and the fullband part. The count is not touched here.
+-- The three parts in the Rust's order: the subband part; the signal-dependent part, lent each channel's subband streams after this
+-- update, which stays as it is with one section; the fullband part. (With onset detection off the Rust lends the plain stream twice; the
+-- part then reads no compensated one.) The count is not touched here.
 unfoldable pub updated : ErleEstimator → Update → ErleEstimator
 updated s u =
     let subband = Subband·updated (subbandPart s) (u .converged) (u .render) (u .capture) (u .residual) in
-    record {
-      settings = s .settings;
-      «startup_phase_length_blocks» = s .«startup_phase_length_blocks»;
-      «blocks_since_reset» = s .«blocks_since_reset»;
-      «section_boundaries_blocks» = s .«section_boundaries_blocks»;
-      subband = subband .channels;
-      «signal_dependent» = SignalDependent·afterAccepted (signalPart s) (signalUpdate u subband) .channels;
-      fullband = FullBand·updated (fullbandPart s) (u .converged) (u .render) (u .capture) (u .residual) .channels;
-    }
+    let lent = Subband·channelAt subband in
+    let signal = SignalDependent·afterAccepted (signalPart s) u (λ ch. lent ch .erle) (λ ch. lent ch .«erle_onset_compensated») in
+    let fullband = FullBand·updated (fullbandPart s) (u .converged) (u .render) (u .capture) (u .residual) in
+    withRecords s (s .«blocks_since_reset») (subband .channels) (signal .channels) (fullband .channels)
 
 -- Each accepted update counts one block first; if the count is then below the startup count, nothing else happens.
 unfoldable pub afterAccepted : ErleEstimator → Update → ErleEstimator

@@ -1,16 +1,14 @@
 -- The three parts of the ERLE estimator under its one set of settings.
 use mathlib.Core.List.{List}
-use Prim.Native.Nat.{ℕ, _*_, _/_, _%_}
-use lib.Ieee.{Float, nan}
-use lib.ListN.{getD}
+use Prim.Native.Nat.{ℕ}
 use Rattle.aec3_common.specs.declared.settings.ErleSettings.{ErleSettings}
-use Rattle.aec3_common.specs.Lists.{tab}
 use Rattle.subband_erle_estimator.specs.declared.settings.SubbandSettings.{SubbandSettings}
 use Rattle.subband_erle_estimator.specs.declared.channel.SubbandChannel.{SubbandChannel}
 use Rattle.subband_erle_estimator.specs.declared.SubbandErleEstimator.{SubbandErleEstimator}
-use Rattle.subband_erle_estimator.specs.Subband.{channelAt}
 use Rattle.signal_dependent_erle_estimator.specs.declared.settings.SignalDependentSettings.{SignalDependentSettings}
+use Rattle.signal_dependent_erle_estimator.specs.declared.channel.SignalDependentChannel.{SignalDependentChannel}
 use Rattle.signal_dependent_erle_estimator.specs.declared.SignalDependentErleEstimator.{SignalDependentErleEstimator}
+use Rattle.fullband_channel.specs.declared.channel.FullBandChannel.{FullBandChannel}
 use Rattle.fullband_erle_estimator.specs.declared.settings.FullBandSettings.{FullBandSettings}
 use Rattle.fullband_erle_estimator.specs.declared.FullBandErleEstimator.{FullBandErleEstimator}
 use Rattle.erle_estimator.specs.declared.ErleEstimator.{ErleEstimator}
@@ -68,7 +66,15 @@ signalPart s =
 abbrev pub fullbandPart : ErleEstimator → FullBandErleEstimator
 fullbandPart s = record { settings = fullbandSettings (s .settings); channels = s .fullband }
 
--- a stream of each of the subband part's channels, one behind the other
-unfoldable pub streamsOf : (SubbandChannel → List Float) → SubbandErleEstimator → List Float
-streamsOf stream s =
-    tab (s .settings .«num_capture_channels» * 65) (λ j. getD (stream (channelAt s (j / 65))) (j % 65) nan)
+-- the estimator with a block count and records of the three parts; whatever else it holds stays
+abbrev pub withRecords : ErleEstimator → ℕ → List SubbandChannel → List SignalDependentChannel → List FullBandChannel → ErleEstimator
+withRecords s blocks subband signal fullband =
+    record {
+      settings = s .settings;
+      «startup_phase_length_blocks» = s .«startup_phase_length_blocks»;
+      «blocks_since_reset» = blocks;
+      «section_boundaries_blocks» = s .«section_boundaries_blocks»;
+      subband = subband;
+      «signal_dependent» = signal;
+      fullband = fullband;
+    }

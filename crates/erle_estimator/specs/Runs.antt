@@ -2,13 +2,11 @@
 use mathlib.Core.Path.{_≡_}
 use mathlib.Core.Bool.{Bool}
 use mathlib.Core.List.{List}
-use Prim.Native.Nat.{ℕ}
-use Rattle.aec3_common.specs.declared.settings.ErleSettings.{ErleSettings}
 use Rattle.aec3_common.specs.Calls.{runBy}
 use Rattle.aec3_common.specs.Refusal.{accepted, badState}
 use Rattle.erle_estimator.specs.declared.ErleEstimator.{ErleEstimator}
 use Rattle.erle_estimator.specs.declared.ErleAnswer.{ErleAnswer}
-use Rattle.erle_estimator.specs.Erle.{Update, stateRefusal, startAnswer, resetAnswer, updateAnswer}
+use Rattle.erle_estimator.specs.Erle.{Update, stateRefusal, resetAnswer, updateAnswer}
 
 -- a call, accepted or refused: an update; or a reset, and whether the delay changed
 pub data Call : Type 0 where
@@ -29,8 +27,7 @@ pub record NotBad (s : ErleEstimator) : Type 0 where
   pub calls : (next : Call) → answer s next .refused ≡ badState → ⊥
   pub readings : stateRefusal s ≡ accepted
 
--- Claim: after an accepted start and any list of updates and resets, refused calls among them, no call is refused under 20.
-unfoldable pub NeverBadState : Type 0
-NeverBadState =
-    (startup : ℕ) (settings : ErleSettings) (calls : List Call)
-    → startAnswer startup settings .refused ≡ accepted → NotBad (run (startAnswer startup settings .state) calls)
+-- Claim, which an accepted start promises of the state that it answers with: after any list of updates and resets, refused calls
+-- among them, no call is refused under 20.
+unfoldable pub NeverBadState : ErleEstimator → Type 0
+NeverBadState start = (calls : List Call) → NotBad (run start calls)

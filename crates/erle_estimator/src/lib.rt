@@ -38,9 +38,11 @@ ghost use mathlib.Core.Path.{_≡_};
 ghost use mathlib.Core.Bool.{true};
 ghost use lib.Ieee.{binary32, add, lt};
 ghost use Rattle.aec3_common.specs.Binary32.{zero32};
+ghost use Rattle.aec3_common.specs.Refusal.{accepted};
 ghost use Rattle.fullband_channel.specs.Instantaneous.{epsilon};
 ghost use Rattle.erle_estimator.specs.Parts.{fullbandPart};
 ghost use Rattle.erle_estimator.specs.Erle.{Update, stateOk, startedWith, startAnswer, blocksKept, resetAnswer, updateAnswer, log2Answer, decibelAnswer, qualityAnswer};
+ghost use Rattle.erle_estimator.specs.Runs.{NeverBadState};
 
 // The settings once, the startup count, the blocks counted since the latest reset that came with a change of delay, and four records of
 // each part.
@@ -92,9 +94,11 @@ fn blocks_kept(blocks: u32, delay_change: bool) -> u32
 }
 
 impl ErleEstimator {
-    // A start. 1, 2 and 3 are turned away, with a state that update, reset and the fullband readers turn away.
+    // A start. 1, 2 and 3 are turned away, with a state that update, reset and the fullband readers turn away. After an accepted start
+    // none does so under 20.
     pub fn new(startup_phase_length_blocks: u32, settings: ErleSettings) -> ErleAnswer
         ensures { λ r. ⌜ r ≡ startAnswer «startup_phase_length_blocks» settings ⌝ }
+        ensures { λ r. ⌜ (r .refused ≡ accepted → NeverBadState (r .state)) ⌝ }
     {
         let refused = settings.refusal();
         if refused == ACCEPTED {

@@ -26,6 +26,7 @@ use Rattle.fullband_channel.specs.Channel.{channelOk, freshChannel, channelAfte
 use Rattle.fullband_channel.proofs.Kept.{SumOf, ChannelKept, fresh-kept, after-kept, channel-ok}
 use Rattle.fullband_erle_estimator.specs.declared.settings.FullBandSettings.{FullBandSettings}
 use Rattle.fullband_erle_estimator.specs.declared.FullBandErleEstimator.{FullBandErleEstimator}
+use Rattle.fullband_erle_estimator.specs.declared.FullBandAnswer.{FullBandAnswer}
 use Rattle.fullband_erle_estimator.specs.FullBand.{settingsRefusal, stateOk, stateRefusal, updateRefusal, minLog2, started, startAnswer, resetAnswer, noChannel, channelAt, updated, updateAnswer, leastFrom, leastOr, fullbandLog2}
 use Rattle.fullband_erle_estimator.specs.Runs.{answer, run, NeverBadState, FiguresNotBelowMinimum}
 
@@ -112,9 +113,9 @@ answer-not-20 s (update channels converged render capture residual) ok e =
     update-not-20 (s .settings .«num_capture_channels») channels converged render capture residual (rw ok at e)
 answer-not-20 s reset ok e = let never : _≡_ {A = ℕ} 0 20 = rw ok at e in omega arith
 
-pub never-bad-state : NeverBadState
+pub never-bad-state : (g : FullBandSettings) → startAnswer g .refused ≡ accepted → NeverBadState (startAnswer g .state)
 unfolding NeverBadState startAnswer stateRefusal
-never-bad-state g calls e =
+never-bad-state g e calls =
     let s = run (startAnswer g .state) calls in
     let ok = state-ok g s e (run-kept g e calls) in
     record { calls = λ next. answer-not-20 s next ok; readings = rw ok }
@@ -141,9 +142,9 @@ least-not-below min none [] p all = p
 least-not-below min none (c ∷ cs) p all =
     least-from-not-below min _ cs (and-left (notBelow min c) _ all) (and-right (notBelow min c) _ all)
 
-pub figures-not-below-minimum : FiguresNotBelowMinimum
+pub figures-not-below-minimum : (g : FullBandSettings) → startAnswer g .refused ≡ accepted → FiguresNotBelowMinimum g (startAnswer g .state)
 unfolding FiguresNotBelowMinimum startAnswer fullbandLog2
-figures-not-below-minimum g calls e =
+figures-not-below-minimum g e calls =
     let s = run (startAnswer g .state) calls in
     let kept = run-kept g e calls in
     let min = minLog2 g in
@@ -154,3 +155,11 @@ figures-not-below-minimum g calls e =
           (least-not-below min min _ (not-below-itself min (min-number g))
           (every-first (notBelow min) (g .«num_capture_channels») (s .channels) noChannel (λ ch h. kept .channels ch h .figure)));
     }
+
+-- ---- a start
+
+-- what is answered by the definition promises both
+pub start-promises :
+    (g : FullBandSettings) {r : FullBandAnswer} → r ≡ startAnswer g
+    → (r ≡ startAnswer g) × ((r .refused ≡ accepted → NeverBadState (r .state)) × (r .refused ≡ accepted → FiguresNotBelowMinimum g (r .state)))
+start-promises g same = (same, (rw same (never-bad-state g), rw same (figures-not-below-minimum g)))

@@ -9,7 +9,7 @@ use Rattle.aec3_common.specs.Refusal.{accepted, badState}
 use Rattle.fullband_erle_estimator.specs.declared.settings.FullBandSettings.{FullBandSettings}
 use Rattle.fullband_erle_estimator.specs.declared.FullBandErleEstimator.{FullBandErleEstimator}
 use Rattle.fullband_erle_estimator.specs.declared.FullBandAnswer.{FullBandAnswer}
-use Rattle.fullband_erle_estimator.specs.FullBand.{stateRefusal, minLog2, startAnswer, resetAnswer, updateAnswer, channelAt, fullbandLog2}
+use Rattle.fullband_erle_estimator.specs.FullBand.{stateRefusal, minLog2, resetAnswer, updateAnswer, channelAt, fullbandLog2}
 
 -- ---- lists of calls
 
@@ -29,11 +29,10 @@ pub record NotBad (s : FullBandErleEstimator) : Type 0 where
   pub calls : (next : Call) → answer s next .refused ≡ badState → ⊥
   pub readings : stateRefusal s ≡ accepted
 
--- Claim: after an accepted start and any list of updates and resets, refused calls among them, no call is refused under 20.
-unfoldable pub NeverBadState : Type 0
-NeverBadState =
-    (settings : FullBandSettings) (calls : List Call)
-    → startAnswer settings .refused ≡ accepted → NotBad (run (startAnswer settings .state) calls)
+-- Claim, which an accepted start promises of the state that it answers with: after any list of updates and resets, refused calls
+-- among them, no call is refused under 20.
+unfoldable pub NeverBadState : FullBandErleEstimator → Type 0
+NeverBadState start = (calls : List Call) → NotBad (run start calls)
 
 -- ---- figures
 
@@ -46,8 +45,6 @@ pub record NotBelowMinimum (settings : FullBandSettings) (s : FullBandErleEstima
   pub channels : (ch : ℕ) → ch < settings .«num_capture_channels» → le (minLog2 settings) (figureOf s ch) ≡ true
   pub least : le (minLog2 settings) (fullbandLog2 s) ≡ true
 
--- Claim: in the same runs no figure is below log2 of (the minimum plus 0.001), and none is a NaN.
-unfoldable pub FiguresNotBelowMinimum : Type 0
-FiguresNotBelowMinimum =
-    (settings : FullBandSettings) (calls : List Call)
-    → startAnswer settings .refused ≡ accepted → NotBelowMinimum settings (run (startAnswer settings .state) calls)
+-- Claim, which it promises too: in the same runs no figure is below log2 of (the minimum plus 0.001), and none is a NaN.
+unfoldable pub FiguresNotBelowMinimum : FullBandSettings → FullBandErleEstimator → Type 0
+FiguresNotBelowMinimum settings start = (calls : List Call) → NotBelowMinimum settings (run start calls)

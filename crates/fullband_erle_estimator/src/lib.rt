@@ -20,9 +20,11 @@ ghost use lib.Ieee.{binary32, add, lt};
 ghost use lib.ListN.{take};
 ghost use Rattle.aec3_common.specs.Binary32.{zero32};
 ghost use Rattle.aec3_common.specs.Lists.{every};
+ghost use Rattle.aec3_common.specs.Refusal.{accepted};
 ghost use Rattle.fullband_channel.specs.Instantaneous.{epsilon};
 ghost use Rattle.fullband_channel.specs.Channel.{channelOk};
 ghost use Rattle.fullband_erle_estimator.specs.FullBand.{stateOk, started as FullBand·started, startAnswer, resetAnswer, updateAnswer, fullbandLog2, decibels as FullBand·decibels, log2Answer, decibelAnswer, qualityAnswer};
+ghost use Rattle.fullband_erle_estimator.specs.Runs.{NeverBadState, FiguresNotBelowMinimum};
 ghost use Rattle.fullband_erle_estimator.specs.Steps.{loudFor};
 
 // What turns a log2 figure into decibels.
@@ -91,9 +93,12 @@ pub fn is_loud(converged_filters: &[bool], x2: &[f32]) -> bool
 }
 
 impl FullBandErleEstimator {
-    // A start. 1 and 2 are turned away, with a state that every later call turns away.
+    // A start. 1 and 2 are turned away, with a state that every later call turns away. After an accepted start none does so under 20, and
+    // no figure falls below log2 of (the minimum plus 0.001).
     pub fn new(settings: FullBandSettings) -> FullBandAnswer
         ensures { λ r. ⌜ r ≡ startAnswer settings ⌝ }
+        ensures { λ r. ⌜ (r .refused ≡ accepted → NeverBadState (r .state)) ⌝ }
+        ensures { λ r. ⌜ (r .refused ≡ accepted → FiguresNotBelowMinimum settings (r .state)) ⌝ }
     {
         let refused = settings.refusal();
         if refused == ACCEPTED {

@@ -1,16 +1,16 @@
 -- What the judging of settings, of a state and of an update tells.
 use mathlib.Core.Path.{_≡_}
-use mathlib.Core.Bool.{Bool, true, _&&_}
+use mathlib.Core.Bool.{true}
 use mathlib.Core.List.{List, [], _∷_}
-use Prim.Native.Nat.{ℕ, zero, suc, _+_, _*_, _≤_, _<_}
+use Prim.Native.Nat.{ℕ, zero, suc, _*_, _≤_, _<_}
 use native.Mathlib.Omega.{arith}
-use borrow.Author.Tests.{eqb-true, leb-true, ltb-true}
+use borrow.Author.Tests.{eqb-true, ltb-true}
 use lib.Dec.{leb, ltb, eqb}
 use lib.Ieee.{Float}
 use lib.ListN.{length, getD}
 use Rattle.aec3_common.specs.Calls.{lengthsOk}
 use Rattle.aec3_common.specs.Lists.{every}
-use Rattle.aec3_common.specs.Refusal.{unless, firstOf, accepted, badChannelCount, badRing, badPlace}
+use Rattle.aec3_common.specs.Refusal.{unless, firstOf, accepted, badRing, badPlace}
 use Rattle.aec3_common.specs.Settings.{maxRenderChannels, headroomBlocks, renderChannelsOk, rangesOk, sectionsOk}
 use Rattle.aec3_common.proofs.Calls.{few-channels, first-passed, sections-passed}
 use Rattle.aec3_common.proofs.Choices.{and-left, and-right, each-of-three, each-of-four, passed, later-passed, first-of-passed}
@@ -23,7 +23,7 @@ use Rattle.section_echoes.proofs.Packed.{each-at-most}
 use Rattle.signal_dependent_erle_estimator.specs.declared.settings.SignalDependentSettings.{SignalDependentSettings}
 use Rattle.signal_dependent_erle_estimator.specs.declared.SignalDependentErleEstimator.{SignalDependentErleEstimator}
 use Rattle.signal_dependent_erle_estimator.specs.Steps.{Passed}
-use Rattle.signal_dependent_erle_estimator.specs.SignalDependent.{Update, settingsRefusal, stateOk, slotsReach, ringRefusal, responsesOk, allLengthsOk, allValuesOk, refusalOf, updateRefusal}
+use Rattle.signal_dependent_erle_estimator.specs.SignalDependent.{Update, settingsRefusal, stateOk, slotsReach, ringRefusal, responsesOk, lentLengthsOk, allLengthsOk, allValuesOk, refusalOf, updateRefusal}
 
 -- ---- settings
 
@@ -88,16 +88,17 @@ ring-passed headroom ring e =
 
 -- ---- an update
 
-pub update-passed : (s : SignalDependentErleEstimator) (u : Update) → updateRefusal s u ≡ accepted → Passed s u
-unfolding updateRefusal refusalOf allLengthsOk responsesOk
-update-passed s u e =
+pub update-passed :
+    (s : SignalDependentErleEstimator) (u : Update) (average averageCompensated : List Float)
+    → updateRefusal s u average averageCompensated ≡ accepted → Passed s u average averageCompensated
+unfolding updateRefusal refusalOf allLengthsOk lentLengthsOk responsesOk
+update-passed s u average averageCompensated e =
     let g = s .settings in
     let same = eqb (u .channels) (g .«num_capture_channels») in
     let ring = ringRefusal (headroomBlocks (g .«delay_headroom_samples»)) (u .ring) in
     let most = g .«filter_length_blocks» in
-    let lengths = allLengthsOk most u in
-    let values =
-    unless (allValuesOk (u .spectra) (u .responses) (u .render) (u .capture) (u .residual) (u .average) (u .averageCompensated)) 6 0 in
+    let lengths = allLengthsOk most u average averageCompensated in
+    let values = unless (allValuesOk u average averageCompensated) 6 0 in
     let after-lengths = unless lengths 5 values in
     let after-ring = firstOf ring after-lengths in
     let after-same = unless same 21 after-ring in
@@ -107,17 +108,17 @@ update-passed s u e =
     let long = passed lengths 4 values (ringed .1) in
     let ok = ring-passed (headroomBlocks (g .«delay_headroom_samples»)) (u .ring) (ringed .0) in
     let first = lengthsOk (u .channels) (u .converged) (u .render) (u .capture) (u .residual) in
-    let average = eqb (length (u .average)) (u .channels * 65) in
-    let compensated = eqb (length (u .averageCompensated)) (u .channels * 65) in
+    let plain = eqb (length average) (u .channels * 65) in
+    let compensated = eqb (length averageCompensated) (u .channels * 65) in
     let spectra = eqb (length (u .spectra)) (u .ring .slots * slotLength (u .ring .channels)) in
     let responses = responsesOk (u .channels) most (u .counts) (u .responses) in
-    let (firsts, averaged, compensateds, slots) =
-    each-of-four first average compensated spectra (and-left (first && average && compensated && spectra) responses long) in
+    let (lent, plains, compensateds) = each-of-three (lentLengthsOk most u) plain compensated long in
+    let (firsts, slots, responded) = each-of-three first spectra responses lent in
     let (flagged, rendered, captured, left) =
     each-of-four (eqb (length (u .converged)) (u .channels)) (eqb (length (u .render)) 65) (eqb (length (u .capture)) (u .channels * 65)) (eqb (length (u .residual)) (u .channels * 65)) firsts in
     let (listed, few, packed) =
     each-of-three (eqb (length (u .counts)) (u .channels)) (every (λ n. leb n most) (u .counts)) (eqb (length (u .responses)) (total (u .counts) * 65))
-    (and-right (first && average && compensated && spectra) responses long) in
+    responded in
     let settings = settings-passed s state in
     record {
       state = settings;
@@ -127,8 +128,8 @@ update-passed s u e =
       render = eqb-true _ _ rendered;
       capture = eqb-true _ _ captured;
       residual = eqb-true _ _ left;
-      average = eqb-true _ _ averaged;
-      averageCompensated = eqb-true _ _ compensateds;
+      plain = eqb-true _ _ plains;
+      compensated = eqb-true _ _ compensateds;
       counts = eqb-true _ _ listed;
       blocks = each-at-most most 16 (u .counts) (sixteen-blocks g settings) few;
       responses = eqb-true _ _ packed;

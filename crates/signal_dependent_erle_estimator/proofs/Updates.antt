@@ -1,6 +1,6 @@
 -- The loop over the channels in an update.
-use mathlib.Core.Path.{_≡_, refl, sym, ap, _∙_}
-use mathlib.Core.Bool.{true, false, cond}
+use mathlib.Core.Path.{_≡_, ap, _∙_}
+use mathlib.Core.Bool.{true}
 use mathlib.Core.List.{List, []}
 use Prim.Native.Nat.{ℕ, _+_, _≤_, _<_}
 use native.Mathlib.Omega.{arith}
@@ -8,7 +8,7 @@ use borrow.Author.Tests.{lt-ltb, ltb-true}
 use lib.Dec.{ltb}
 use lib.Ieee.{Float}
 use lib.ListN.{length, getD, set}
-use Rattle.aec3_common.specs.Lists.{tab, every}
+use Rattle.aec3_common.specs.Lists.{every}
 use Rattle.aec3_common.specs.Settings.{headroomBlocks}
 use Rattle.aec3_common.proofs.Choices.{cond-same}
 use Rattle.aec3_common.proofs.Every.{every-by}
@@ -82,15 +82,17 @@ module _
 
     -- all records
     pub updating-over :
-        (u : Update) → s .settings .«num_capture_channels» ≤ ch → length (u .counts) ≡ s .settings .«num_capture_channels» → length (u .counts) ≤ 4
+        (u : Update) (average averageCompensated : ℕ → List Float)
+        → s .settings .«num_capture_channels» ≤ ch → length (u .counts) ≡ s .settings .«num_capture_channels» → length (u .counts) ≤ 4
         → let g = s .settings in
         active ≡ allActive (u .ring) (u .spectra) (headroomBlocks (g .«delay_headroom_samples»)) (s .«section_boundaries_blocks») (g .«num_sections») (u .counts) (u .responses)
-        → renders ≡ subbandSums (u .render) → ((ch : ℕ) → lent ch ≡ lentTo u ch) → r ≡ updated s u
+        → renders ≡ subbandSums (u .render) → ((ch : ℕ) → lent ch ≡ lentTo u average averageCompensated ch)
+        → r ≡ updated s u average averageCompensated
     unfolding updated
-    updating-over u over counted few found summed same =
+    updating-over u average averageCompensated over counted few found summed same =
         λ i. record { settings = t .settings i; «section_boundaries_blocks» = t .boundaries i; channels = all i }
       where
-        all : r .channels ≡ updated s u .channels
+        all : r .channels ≡ updated s u average averageCompensated .channels
         all =
             stored-firsts (t .stored) over
             ∙ tab-same 4 noChannel _ _

@@ -24,9 +24,10 @@ use Rattle.signal_dependent_erle_estimator.specs.declared.SignalDependen
 use Rattle.signal_dependent_erle_estimator.specs.declared.SignalDependentAnswer.{SignalDependentAnswer}
 use Rattle.signal_dependent_erle_estimator.specs.Channel.{Lent, freshChannel, channelAfter}
 
--- What an update is lent: the call's channel count; the ring and its spectra, which make the echoes; the number of response blocks of
--- each channel and the responses, packed; the render power that learning looks at, apart from the ring's; capture and residual
--- power; the subband estimator's two streams; the flags.
+-- What an update is lent, here and of the whole estimator: the call's channel count; the ring and its spectra, which make the echoes;
+-- the number of response blocks of each channel and the responses, packed; the render power, 65 numbers for all channels, apart from
+-- the ring's; capture and residual power, 65 numbers for each channel, packed; the flags. Here the subband estimator's plain and
+-- compensated streams come beside it.
 pub record Update : Type 0 where
   pub channels : ℕ
   pub ring : RenderRing
@@ -36,8 +37,6 @@ pub record Update : Type 0 where
   pub render : List Float
   pub capture : List Float
   pub residual : List Float
-  pub average : List Float
-  pub averageCompensated : List Float
   pub converged : List Bool
 
 -- ---- calls turned away
@@ -91,37 +90,39 @@ unfoldable pub responsesOk : ℕ → ℕ → List ℕ → List Float → Bool
 responsesOk channels filterLength counts responses =
     eqb (length counts) channels && every (λ n. leb n filterLength) counts && eqb (length responses) (total counts * 65)
 
--- number 5, of all that is lent
-unfoldable pub allLengthsOk : ℕ → Update → Bool
-allLengthsOk filterLength u =
+-- number 5, of what an update is lent
+unfoldable pub lentLengthsOk : ℕ → Update → Bool
+lentLengthsOk filterLength u =
     lengthsOk (u .channels) (u .converged) (u .render) (u .capture) (u .residual)
-    && eqb (length (u .average)) (u .channels * 65)
-    && eqb (length (u .averageCompensated)) (u .channels * 65)
     && eqb (length (u .spectra)) (u .ring .slots * slotLength (u .ring .channels))
     && responsesOk (u .channels) filterLength (u .counts) (u .responses)
 
--- number 6, of all that is lent; a lent average is judged as a spectrum value
-unfoldable pub allValuesOk : List Float → List Float → List Float → List Float → List Float → List Float → List Float → Bool
-allValuesOk spectra responses render capture residual average averageCompensated =
-    valuesInRange render capture residual
-    && valuesOk average
-    && valuesOk averageCompensated
-    && valuesOk spectra
-    && valuesOk responses
+-- and of the two streams beside it
+unfoldable pub allLengthsOk : ℕ → Update → List Float → List Float → Bool
+allLengthsOk filterLength u average averageCompensated =
+    lentLengthsOk filterLength u && eqb (length average) (u .channels * 65) && eqb (length averageCompensated) (u .channels * 65)
+
+-- number 6, of what an update is lent
+unfoldable pub lentValuesOk : Update → Bool
+lentValuesOk u = valuesInRange (u .render) (u .capture) (u .residual) && valuesOk (u .spectra) && valuesOk (u .responses)
+
+-- and of the two streams: a lent average is judged as a spectrum value
+unfoldable pub allValuesOk : Update → List Float → List Float → Bool
+allValuesOk u average averageCompensated = lentValuesOk u && valuesOk average && valuesOk averageCompensated
 
 -- The first of 20, 21, 2, 4, 9, 5 and 6, or 0. The state is told by whether number 20 lets it pass, and by its settings. 8 does
 -- not arise: the headroom blocks are the only offset, and 4 has judged them against the slots.
-unfoldable pub refusalOf : Bool → SignalDependentSettings → Update → ℕ
-refusalOf passes20 g u =
+unfoldable pub refusalOf : Bool → SignalDependentSettings → Update → List Float → List Float → ℕ
+refusalOf passes20 g u average averageCompensated =
     unless passes20 badState
     (unless (eqb (u .channels) (g .«num_capture_channels»)) otherChannelCount
     (firstOf (ringRefusal (headroomBlocks (g .«delay_headroom_samples»)) (u .ring))
-    (unless (allLengthsOk (g .«filter_length_blocks») u) badLength
-    (unless (allValuesOk (u .spectra) (u .responses) (u .render) (u .capture) (u .residual) (u .average) (u .averageCompensated)) badValue
+    (unless (allLengthsOk (g .«filter_length_blocks») u average averageCompensated) badLength
+    (unless (allValuesOk u average averageCompensated) badValue
     accepted))))
 
-unfoldable pub updateRefusal : SignalDependentErleEstimator → Update → ℕ
-updateRefusal s u = refusalOf (stateOk s) (s .settings) u
+unfoldable pub updateRefusal : SignalDependentErleEstimator → Update → List Float → List Float → ℕ
+updateRefusal s u average averageCompensated = refusalOf (stateOk s) (s .settings) u average averageCompensated
 
 -- ---- start, reset, update
 
@@ -180,20 +181,20 @@ activeOf s u ch =
     activeSections (u .ring) (u .spectra) (headroomBlocks (g .«delay_headroom_samples»)) (s .«section_boundaries_blocks»)
     (g .«num_sections») (getD (u .counts) ch 0) (responsesOf (u .counts) (u .responses) ch)
 
--- what a channel is lent
-abbrev pub lentTo : Update → ℕ → Lent
-lentTo u ch =
+-- what a channel is lent, with its own streams of the subband estimator
+abbrev pub lentTo : Update → (ℕ → List Float) → (ℕ → List Float) → ℕ → Lent
+lentTo u average averageCompensated ch =
     record {
       converged = getD (u .converged) ch false;
       capture = part (u .capture) ch;
       residual = part (u .residual) ch;
-      average = part (u .average) ch;
-      averageCompensated = part (u .averageCompensated) ch;
+      average = average ch;
+      averageCompensated = averageCompensated ch;
     }
 
--- an update moves the state's channels; records beyond them stay
-unfoldable pub updated : SignalDependentErleEstimator → Update → SignalDependentErleEstimator
-updated s u =
+-- an update, by the streams of each channel, moves the state's channels; records beyond them stay
+unfoldable pub updated : SignalDependentErleEstimator → Update → (ℕ → List Float) → (ℕ → List Float) → SignalDependentErleEstimator
+updated s u average averageCompensated =
     record {
       settings = s .settings;
       «section_boundaries_blocks» = s .«section_boundaries_blocks»;
@@ -201,16 +202,16 @@ updated s u =
           tab maxCaptureChannels
           (λ ch.
           cond (ltb ch (s .settings .«num_capture_channels»))
-          (channelAfter (s .settings) (activeOf s u ch) (subbandSums (u .render)) (lentTo u ch) (channelAt s ch))
+          (channelAfter (s .settings) (activeOf s u ch) (subbandSums (u .render)) (lentTo u average averageCompensated ch) (channelAt s ch))
           (channelAt s ch));
     }
 
 -- With one section an accepted update changes nothing.
-unfoldable pub afterAccepted : SignalDependentErleEstimator → Update → SignalDependentErleEstimator
-afterAccepted s u = cond (ltb 1 (s .settings .«num_sections»)) (updated s u) s
+unfoldable pub afterAccepted : SignalDependentErleEstimator → Update → (ℕ → List Float) → (ℕ → List Float) → SignalDependentErleEstimator
+afterAccepted s u average averageCompensated = cond (ltb 1 (s .settings .«num_sections»)) (updated s u average averageCompensated) s
 
--- The answer: the next state and 0, or the state as it was and the refusal.
-unfoldable pub updateAnswer : SignalDependentErleEstimator → Update → SignalDependentAnswer
-updateAnswer s u =
-    let n = updateRefusal s u in
-    record { state = cond (eqb n accepted) (afterAccepted s u) s; refused = n }
+-- The answer: the next state and 0, or the state as it was and the refusal. The two streams are lent packed, 65 numbers for each channel.
+unfoldable pub updateAnswer : SignalDependentErleEstimator → Update → List Float → List Float → SignalDependentAnswer
+updateAnswer s u average averageCompensated =
+    let n = updateRefusal s u average averageCompensated in
+    record { state = cond (eqb n accepted) (afterAccepted s u (part average) (part averageCompensated)) s; refused = n }

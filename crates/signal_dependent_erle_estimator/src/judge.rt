@@ -16,15 +16,17 @@ use aec3_common::values_ok;
 use section_echoes::RenderRing;
 use spectrum_buffer::slots_ok;
 ghost use mathlib.Core.Path.{_≡_};
-ghost use mathlib.Core.Bool.{true};
+ghost use mathlib.Core.Bool.{true, _&&_};
 ghost use Prim.Native.Nat.{_*_, _≤_};
 ghost use lib.Dec.{leb, eqb};
 ghost use lib.ListN.{length};
+ghost use Rattle.aec3_common.specs.Binary32.{valuesOk};
+ghost use Rattle.aec3_common.specs.Calls.{valuesInRange};
 ghost use Rattle.aec3_common.specs.Lists.{every};
 ghost use Rattle.aec3_common.specs.Refusal.{accepted};
 ghost use Rattle.section_echoes.specs.Packed.{total};
 ghost use Rattle.section_echoes.specs.Walk.{slotLength};
-ghost use Rattle.signal_dependent_erle_estimator.specs.SignalDependent.{Update, settingsRefusal, slotsReach, ringRefusal, responsesOk, allLengthsOk, allValuesOk, refusalOf};
+ghost use Rattle.signal_dependent_erle_estimator.specs.SignalDependent.{Update, settingsRefusal, slotsReach, ringRefusal, responsesOk, allLengthsOk, refusalOf};
 
 // Number 4: the slots are in their range, and the headroom blocks are not above them.
 fn slots_reach(slots: usize, headroom: usize) -> bool
@@ -114,13 +116,13 @@ fn all_lengths_ok(
     converged: &[bool],
 ) -> bool
     requires { ⌜ (channels ≤ 4) × («filter_length» ≤ 16) × (ring .slots ≤ 32) × (ring .channels ≤ 2) ⌝ }
-    ensures { λ r. ⌜ r ≡ allLengthsOk «filter_length» (record { channels = channels; ring = ring; spectra = now (spectra .entry); counts = now (counts .entry); responses = now (responses .entry); render = now (x2 .entry); capture = now (y2 .entry); residual = now (e2 .entry); average = now (average .entry); averageCompensated = now («average_compensated» .entry); converged = now (converged .entry) }) ⌝ }
+    ensures { λ r. ⌜ r ≡ allLengthsOk «filter_length» (record { channels = channels; ring = ring; spectra = now (spectra .entry); counts = now (counts .entry); responses = now (responses .entry); render = now (x2 .entry); capture = now (y2 .entry); residual = now (e2 .entry); converged = now (converged .entry) }) (now (average .entry)) (now («average_compensated» .entry)) ⌝ }
 {
     lengths_ok(channels, converged, x2, y2, e2)
-        & (average.len() == channels * 65)
-        & (average_compensated.len() == channels * 65)
         & spectra_ok(ring, spectra)
         & responses_ok(channels, filter_length, counts, responses)
+        & (average.len() == channels * 65)
+        & (average_compensated.len() == channels * 65)
 }
 
 // Number 6, of all that is lent.
@@ -133,13 +135,13 @@ fn all_lent_values_ok(
     average: &[f32],
     average_compensated: &[f32],
 ) -> bool
-    ensures { λ r. ⌜ r ≡ allValuesOk (now (spectra .entry)) (now (responses .entry)) (now (x2 .entry)) (now (y2 .entry)) (now (e2 .entry)) (now (average .entry)) (now («average_compensated» .entry)) ⌝ }
+    ensures { λ r. ⌜ r ≡ valuesInRange (now (x2 .entry)) (now (y2 .entry)) (now (e2 .entry)) && valuesOk (now (spectra .entry)) && valuesOk (now (responses .entry)) && valuesOk (now (average .entry)) && valuesOk (now («average_compensated» .entry)) ⌝ }
 {
     all_values_ok(x2, y2, e2)
-        & values_ok(average)
-        & values_ok(average_compensated)
         & values_ok(spectra)
         & values_ok(responses)
+        & values_ok(average)
+        & values_ok(average_compensated)
 }
 
 // The first of 20, 21, 2, 4, 9, 5 and 6, or 0, where it is known whether number 20 lets the state pass.
@@ -159,7 +161,7 @@ pub fn update_refusal(
     converged: &[bool],
 ) -> u32
     requires { ⌜ («state_ok» ≡ true → settingsRefusal settings ≡ accepted) ⌝ }
-    ensures { λ r. ⌜ r ≡ refusalOf «state_ok» settings (record { channels = channels; ring = ring; spectra = now (spectra .entry); counts = now (counts .entry); responses = now (responses .entry); render = now (x2 .entry); capture = now (y2 .entry); residual = now (e2 .entry); average = now (average .entry); averageCompensated = now («average_compensated» .entry); converged = now (converged .entry) }) ⌝ }
+    ensures { λ r. ⌜ r ≡ refusalOf «state_ok» settings (record { channels = channels; ring = ring; spectra = now (spectra .entry); counts = now (counts .entry); responses = now (responses .entry); render = now (x2 .entry); capture = now (y2 .entry); residual = now (e2 .entry); converged = now (converged .entry) }) (now (average .entry)) (now («average_compensated» .entry)) ⌝ }
 {
     if !state_ok {
         return BAD_STATE;

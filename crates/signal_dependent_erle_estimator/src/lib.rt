@@ -20,6 +20,9 @@ ghost use mathlib.Core.Path.{_≡_};
 ghost use Prim.Native.Nat.{_≤_};
 ghost use lib.ListN.{take};
 ghost use Rattle.aec3_common.specs.Lists.{every};
+ghost use Rattle.aec3_common.specs.Refusal.{accepted};
+ghost use Rattle.aec3_common.specs.Spectra.{part as Spectra·part};
+ghost use Rattle.signal_dependent_erle_estimator.specs.Runs.{NeverBadState};
 ghost use Rattle.signal_dependent_erle_estimator.specs.Steps.{Passed};
 ghost use Rattle.signal_dependent_erle_estimator.specs.SignalDependent.{Update, sameFirst, boundariesOf, channelOk, stateOk, started as SignalDependent·started, updated as SignalDependent·updated, startAnswer, resetAnswer, updateAnswer};
 
@@ -74,9 +77,10 @@ fn started(settings: SignalDependentSettings) -> SignalDependentErleEstimator
 }
 
 impl SignalDependentErleEstimator {
-    // A start. 1, 2 and 3 are turned away, with a state that every later call turns away.
+    // A start. 1, 2 and 3 are turned away, with a state that every later call turns away. After an accepted start none does so under 20.
     pub fn new(settings: SignalDependentSettings) -> SignalDependentAnswer
         ensures { λ r. ⌜ r ≡ startAnswer settings ⌝ }
+        ensures { λ r. ⌜ (r .refused ≡ accepted → NeverBadState (r .state)) ⌝ }
     {
         let refused = settings.refusal();
         if refused == ACCEPTED {
@@ -150,8 +154,8 @@ impl SignalDependentErleEstimator {
         converged_filters: &[bool],
     ) -> SignalDependentErleEstimator
         requires { ⌜ 2 ≤ self .settings .«num_sections» ⌝ }
-        requires { ⌜ Passed self (record { channels = «num_capture_channels»; ring = ring; spectra = now (spectra); counts = now («response_blocks»); responses = now (responses); render = now (x2); capture = now (y2); residual = now (e2); average = now (average); averageCompensated = now («average_compensated»); converged = now («converged_filters») }) ⌝ }
-        ensures { λ r. ⌜ r ≡ SignalDependent·updated self (record { channels = «num_capture_channels»; ring = ring; spectra = now (spectra .entry); counts = now («response_blocks» .entry); responses = now (responses .entry); render = now (x2 .entry); capture = now (y2 .entry); residual = now (e2 .entry); average = now (average .entry); averageCompensated = now («average_compensated» .entry); converged = now («converged_filters» .entry) }) ⌝ }
+        requires { ⌜ Passed self (record { channels = «num_capture_channels»; ring = ring; spectra = now (spectra); counts = now («response_blocks»); responses = now (responses); render = now (x2); capture = now (y2); residual = now (e2); converged = now («converged_filters») }) (now (average)) (now («average_compensated»)) ⌝ }
+        ensures { λ r. ⌜ r ≡ SignalDependent·updated self (record { channels = «num_capture_channels»; ring = ring; spectra = now (spectra .entry); counts = now («response_blocks» .entry); responses = now (responses .entry); render = now (x2 .entry); capture = now (y2 .entry); residual = now (e2 .entry); converged = now («converged_filters» .entry) }) (Spectra·part (now (average .entry))) (Spectra·part (now («average_compensated» .entry))) ⌝ }
     {
         let settings = self.settings;
         let boundaries = self.section_boundaries_blocks;
@@ -198,7 +202,7 @@ impl SignalDependentErleEstimator {
         average_compensated: &[f32],
         converged_filters: &[bool],
     ) -> SignalDependentAnswer
-        ensures { λ r. ⌜ r ≡ updateAnswer self (record { channels = «num_capture_channels»; ring = ring; spectra = now (spectra .entry); counts = now («response_blocks» .entry); responses = now (responses .entry); render = now (x2 .entry); capture = now (y2 .entry); residual = now (e2 .entry); average = now (average .entry); averageCompensated = now («average_compensated» .entry); converged = now («converged_filters» .entry) }) ⌝ }
+        ensures { λ r. ⌜ r ≡ updateAnswer self (record { channels = «num_capture_channels»; ring = ring; spectra = now (spectra .entry); counts = now («response_blocks» .entry); responses = now (responses .entry); render = now (x2 .entry); capture = now (y2 .entry); residual = now (e2 .entry); converged = now («converged_filters» .entry) }) (now (average .entry)) (now («average_compensated» .entry)) ⌝ }
     {
         let settings = self.settings;
         let refused = update_refusal(

@@ -29,8 +29,8 @@ use Rattle.fullband_erle_estimator.specs.FullBand.{minLog2, settingsRefusal as 
 use Rattle.fullband_erle_estimator.specs.Steps.{loudFor}
 use Rattle.fullband_erle_estimator.proofs.Updates.{channelOf as FullBand·channelOf}
 use Rattle.erle_estimator.specs.declared.ErleEstimator.{ErleEstimator}
-use Rattle.erle_estimator.specs.Parts.{subbandSettings, fullbandSettings, subbandPart, signalPart, fullbandPart}
-use Rattle.erle_estimator.specs.Erle.{Update, stateOk, signalUpdate, updated}
+use Rattle.erle_estimator.specs.Parts.{subbandSettings, fullbandSettings, subbandPart, signalPart, fullbandPart, withRecords}
+use Rattle.erle_estimator.specs.Erle.{Update, stateOk, updated}
 use Rattle.erle_estimator.proofs.Judged.{subband-passed, signal-passed, fullband-passed}
 use Rattle.erle_estimator.proofs.Updates.{subbandOf, fullbandOf, fullband-is}
 
@@ -48,11 +48,7 @@ module _ (s : ErleEstimator) (u : Update) where
 
   -- What the loop has done at ch: the records before it are updated, and judged; the rest of the state stands.
   pub record Moving (r : ErleEstimator) (ch : ℕ) (ok : Bool) : Type 0 where
-    pub settings : r .settings ≡ s .settings
-    pub startup : r .«startup_phase_length_blocks» ≡ s .«startup_phase_length_blocks»
-    pub blocks : r .«blocks_since_reset» ≡ s .«blocks_since_reset»
-    pub boundaries : r .«section_boundaries_blocks» ≡ s .«section_boundaries_blocks»
-    pub signal : r .«signal_dependent» ≡ s .«signal_dependent»
+    rest : r ≡ withRecords s (s .«blocks_since_reset») (r .subband) (s .«signal_dependent») (r .fullband)
     pub subband : Stored 4 Subband·noChannel 0 (s .settings .«num_capture_channels») subbandAt (s .subband) (r .subband) ch
     pub fullband : Stored 4 FullBand·noChannel 0 (s .settings .«num_capture_channels») fullbandAt (s .fullband) (r .fullband) ch
     pub passing : ok ≡ true → (j : ℕ) → j < ch → Passing j
@@ -61,11 +57,7 @@ module _ (s : ErleEstimator) (u : Update) where
   pub moving-none : {ok : Bool} → ok ≡ true → length (s .subband) ≡ 4 → length (s .fullband) ≡ 4 → Moving s 0 ok
   moving-none begun four four-fullband =
       record {
-        settings = refl;
-        startup = refl;
-        blocks = refl;
-        boundaries = refl;
-        signal = refl;
+        rest = refl;
         subband = stored-none _ _ _ _ _ (omega arith) four;
         fullband = stored-none _ _ _ _ _ (omega arith) four-fullband;
         passing = λ ok j h. absurd (omega arith);
@@ -77,23 +69,13 @@ module _ (s : ErleEstimator) (u : Update) where
       → Moving r ch ok → ch < s .settings .«num_capture_channels» → s .settings .«num_capture_channels» ≤ 4
       → c ≡ subbandAt ch → f ≡ fullbandAt ch → a ≡ Subband·channelOk c → b ≡ FullBand·channelOk f
       → Moving
-      (record {
-        settings = r .settings;
-        «startup_phase_length_blocks» = r .«startup_phase_length_blocks»;
-        «blocks_since_reset» = r .«blocks_since_reset»;
-        «section_boundaries_blocks» = r .«section_boundaries_blocks»;
-        subband = set (r .subband) ch c;
-        «signal_dependent» = r .«signal_dependent»;
-        fullband = set (r .fullband) ch f;
-      })
+      (withRecords r (r .«blocks_since_reset») (set (r .subband) ch c) (r .«signal_dependent») (set (r .fullband) ch f))
       (ch + 1) ((ok && a) && b)
-  moving-more {ch = ch} {ok = ok} {a = a} {b = b} {c = c} {f = f} m h few subband fullband is is-fullband =
+  moving-more {r = r} {ch = ch} {ok = ok} {a = a} {b = b} {c = c} {f = f} m h few subband fullband is is-fullband =
       record {
-        settings = m .settings;
-        startup = m .startup;
-        blocks = m .blocks;
-        boundaries = m .boundaries;
-        signal = m .signal;
+        rest =
+            λ i. withRecords (m .rest i) (m .rest i .«blocks_since_reset»)
+            (set (r .subband) ch c) (m .rest i .«signal_dependent») (set (r .fullband) ch f);
         subband = stored-more c (m .subband) h few subband;
         fullband = stored-more f (m .fullband) h few fullband;
         passing = λ all.
@@ -139,7 +121,10 @@ module _ (s : ErleEstimator) (u : Update) where
   moved-fullband = FullBand·updated (fullbandPart s) (u .converged) (u .render) (u .capture) (u .residual)
 
   -- with one section the signal-dependent part stays as it is
-  signal-stays : s .settings .«num_sections» ≡ 1 → SignalDependent·afterAccepted (signalPart s) (signalUpdate u moved) ≡ signalPart s
+  signal-stays :
+      s .settings .«num_sections» ≡ 1
+      → SignalDependent·afterAccepted (signalPart s) u (λ ch. Subband·channelAt moved ch .erle) (λ ch. Subband·channelAt moved ch .«erle_onset_compensated»)
+      ≡ signalPart s
   unfolding SignalDependent·afterAccepted
   signal-stays section = rw section
 
@@ -171,16 +156,8 @@ module _ (s : ErleEstimator) (u : Update) where
         pub moving-all : r ≡ updated s u
         unfolding updated
         moving-all =
-            let signal = m .signal ∙ ap (λ (p : SignalDependentErleEstimator). p .channels) (sym (signal-stays section)) in
-            λ i. record {
-              settings = m .settings i;
-              «startup_phase_length_blocks» = m .startup i;
-              «blocks_since_reset» = m .blocks i;
-              «section_boundaries_blocks» = m .boundaries i;
-              subband = subband-all i;
-              «signal_dependent» = signal i;
-              fullband = fullband-all i;
-            }
+            let signal = ap (λ (p : SignalDependentErleEstimator). p .channels) (sym (signal-stays section)) in
+            m .rest ∙ (λ i. withRecords s (s .«blocks_since_reset») (subband-all i) (signal i) (fullband-all i))
 
         -- each record of a state that passes
         subband-each : stateOk (updated s u) ≡ true → (j : ℕ) → j < s .settings .«num_capture_channels» → Subband·channelOk (Subband·channelAt moved j) ≡ true

@@ -25,7 +25,7 @@ use Rattle.subband_erle_estimator.proofs.Judged.{points-few}
 use Rattle.fullband_erle_estimator.specs.FullBand.{minLog2}
 use Rattle.fullband_erle_estimator.proofs.Judged.{min-above, settings-passed as FullBand·settings-passed, channel-passed}
 use Rattle.erle_estimator.specs.declared.ErleEstimator.{ErleEstimator}
-use Rattle.erle_estimator.specs.Parts.{fullbandSettings, subbandPart, fullbandPart}
+use Rattle.erle_estimator.specs.Parts.{fullbandSettings, subbandPart, fullbandPart, withRecords}
 use Rattle.erle_estimator.specs.Erle.{Update, stateOk, counted, updated}
 use Rattle.erle_estimator.proofs.Judged.{subband-passed, fullband-passed}
 use Rattle.trace_records.specs.Frames.{lengthIn, recordIn}
@@ -162,29 +162,13 @@ update c = updateIn (channelsOf (before c .estimator)) (recordIn (rest c))
 abbrev from : tie.At-loop2 Inv-loop2 μ-loop2 Inv-loop μ-loop → ErleEstimator
 from c =
     let e = before (c .before .before .before .before .before .before .before .before .before .before .before .before .before .before .before .before .before .before .before .before) .estimator in
-    record {
-      settings = e .settings;
-      «startup_phase_length_blocks» = e .«startup_phase_length_blocks»;
-      «blocks_since_reset» = c .before .before .before .before .before .before .before .before .before .before .before .before .before .before .before .before .before .before .before .before .before .before .before .before .one-more .result;
-      «section_boundaries_blocks» = e .«section_boundaries_blocks»;
-      subband = e .subband;
-      «signal_dependent» = e .«signal_dependent»;
-      fullband = e .fullband;
-    }
+    withRecords e (c .before .before .before .before .before .before .before .before .before .before .before .before .before .before .before .before .before .before .before .before .before .before .before .before .one-more .result) (e .subband) (e .«signal_dependent») (e .fullband)
 
 counted-is : (c : tie.At-loop2 Inv-loop2 μ-loop2 Inv-loop μ-loop) → from c ≡ counted (before (c .before .before .before .before .before .before .before .before .before .before .before .before .before .before .before .before .before .before .before .before) .estimator)
 unfolding counted
 counted-is c =
     let e = before (c .before .before .before .before .before .before .before .before .before .before .before .before .before .before .before .before .before .before .before .before) .estimator in
-    λ i. record {
-      settings = e .settings;
-      «startup_phase_length_blocks» = e .«startup_phase_length_blocks»;
-      «blocks_since_reset» = c .before .before .before .before .before .before .before .before .before .before .before .before .before .before .before .before .before .before .before .before .before .before .before .before .one-more .ensures i;
-      «section_boundaries_blocks» = e .«section_boundaries_blocks»;
-      subband = e .subband;
-      «signal_dependent» = e .«signal_dependent»;
-      fullband = e .fullband;
-    }
+    λ i. withRecords e (c .before .before .before .before .before .before .before .before .before .before .before .before .before .before .before .before .before .before .before .before .before .before .before .before .one-more .ensures i) (e .subband) (e .«signal_dependent») (e .fullband)
 
 flag : (c : tie.In-loop2 Inv-loop2 μ-loop2 Inv-loop μ-loop) → getD (c .before .before .before .before .before .before .before .before .before .before .before .before .before .before .before .before .before .before .before .block-in .result .«converged_filters») (c .before .loop2 .ch) false ≡ getD (update (c .before .before .before .before .before .before .before .before .before .before .before .before .before .before .before .before .before .before .before .before .before) .converged) (c .before .loop2 .ch) false
 unfolding updateIn

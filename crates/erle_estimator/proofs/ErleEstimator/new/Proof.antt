@@ -5,6 +5,7 @@ use Rattle.fullband_erle_estimator.proofs.Judged.{min-above, no-minimum-above}
 use Rattle.erle_estimator.specs.Parts.{fullbandSettings}
 use Rattle.erle_estimator.specs.Erle.{refusedSettings, startAnswer}
 use Rattle.erle_estimator.proofs.Judged.{fullband-settings-passed}
+use Rattle.erle_estimator.proofs.Runs.{start-promises}
 use Rattle.erle_estimator.proofs.ErleEstimator.new.Statement.{statement}
 use Rattle.erle_estimator.proofs.ErleEstimator.new.Tie as tie
 
@@ -19,12 +20,17 @@ started-with-requires-2 c κs = rw (c .refused-settings .ensures) no-minimum-abo
 
 returns : tie.Need-returns
 unfolding startAnswer
-returns c = simp (c .started-with .ensures, sym (c .before .before .refusal .ensures), eq-eqb _ _ (c .before .if1 .taken))
+returns c =
+    let a = c .before .before .before .args in
+    start-promises (a .startup-phase-length-blocks) (a .settings)
+    (simp (c .started-with .ensures, sym (c .before .before .refusal .ensures), eq-eqb _ _ (c .before .if1 .taken)))
 
 returns-2 : tie.Need-returns-2
 unfolding startAnswer
 returns-2 c =
-    simp (c .started-with2 .ensures, c .before .refused-settings .ensures, sym (c .before .before .before .refusal .ensures), ne-eqb _ _ (c .before .before .if1 .left))
+    let a = c .before .before .before .before .args in
+    start-promises (a .startup-phase-length-blocks) (a .settings)
+    (simp (c .started-with2 .ensures, c .before .refused-settings .ensures, sym (c .before .before .before .refusal .ensures), ne-eqb _ _ (c .before .before .if1 .left)))
 
 pub new-spec : {M : Type 1} → statement M
 new-spec =

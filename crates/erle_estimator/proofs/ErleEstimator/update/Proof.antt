@@ -1,12 +1,10 @@
 -- The first loop judges the records, the second updates them, part by part. The measures are the channels left.
 use borrow.Author.Needs.{needs}
 use borrow.Author.Tests.{eq-eqb, ne-eqb, lt-ltb, le-ltb}
-use mathlib.Core.Path.{_≡_, refl, sym, ap, _∙_}
+use mathlib.Core.Path.{_≡_, sym, ap, _∙_}
 use mathlib.Core.Bool.{_&&_}
-use mathlib.Core.List.{List}
-use Prim.Native.Nat.{ℕ, _+_, _-_, _*_, _≤_, _<_}
+use Prim.Native.Nat.{ℕ, _-_, _≤_, _<_}
 use native.Mathlib.Omega.{arith}
-use lib.Ieee.{Float}
 use lib.ListN.{length}
 use Rattle.aec3_common.specs.Binary32.{greatestValue, within}
 use Rattle.aec3_common.specs.Settings.{headroomBlocks}
@@ -21,9 +19,9 @@ use Rattle.signal_dependent_erle_estimator.proofs.Updates.{active-at, active-wi
 use Rattle.fullband_erle_estimator.specs.FullBand.{minLog2}
 use Rattle.fullband_erle_estimator.proofs.Judged.{min-above, settings-passed as FullBand·settings-passed, channel-passed}
 use Rattle.erle_estimator.specs.declared.ErleEstimator.{ErleEstimator}
-use Rattle.erle_estimator.specs.Parts.{signalSettings, fullbandSettings, subbandPart, signalPart, fullbandPart}
+use Rattle.erle_estimator.specs.Parts.{signalSettings, fullbandSettings, subbandPart, signalPart, fullbandPart, withRecords}
 use Rattle.erle_estimator.specs.Erle.{Update, stateOk, updateRefusal, counted, afterAccepted, updateAnswer}
-use Rattle.erle_estimator.proofs.Judged.{Walked, walked-none, walked-few, walked-more, walked-all, Accepted, accepted-call, judgedCall, judged-is, subband-passed, signal-passed, fullband-passed}
+use Rattle.erle_estimator.proofs.Judged.{Walked, walked-none, walked-few, walked-more, walked-all, Accepted, accepted-call, judged-is, subband-passed, signal-passed, fullband-passed}
 use Rattle.erle_estimator.proofs.Updates.{subbandOf, Updating, updating-none, updating-more, updating-all, streams-long, subband-is, signal-is, fullband-is}
 use Rattle.erle_estimator.proofs.ErleEstimator.update.Statement.{statement}
 use Rattle.erle_estimator.proofs.ErleEstimator.update.Tie as tie
@@ -184,15 +182,7 @@ subband-channel-requires c κs =
 abbrev from : tie.After-subband-channel Inv-loop μ-loop Inv-loop2 μ-loop2 → ErleEstimator
 from c =
     let s = c .before .before .before .before .before .before .before .before .before .before .before .before .before .before .before .before .before .before .before .before .before .before .before .before .before .before .before .before .before .before .before .before .before .args .t1 in
-    record {
-      settings = s .settings;
-      «startup_phase_length_blocks» = s .«startup_phase_length_blocks»;
-      «blocks_since_reset» = c .before .before .before .before .before .before .before .before .before .before .before .before .before .before .before .one-more .result;
-      «section_boundaries_blocks» = s .«section_boundaries_blocks»;
-      subband = s .subband;
-      «signal_dependent» = s .«signal_dependent»;
-      fullband = s .fullband;
-    }
+    withRecords s (c .before .before .before .before .before .before .before .before .before .before .before .before .before .before .before .one-more .result) (s .subband) (s .«signal_dependent») (s .fullband)
 
 moved-is :
     (c : tie.After-subband-channel Inv-loop μ-loop Inv-loop2 μ-loop2)
@@ -230,9 +220,9 @@ signal-channel-requires c κs =
         eight-sections g (a .lent .state),
         λ many.
             rw
-            (active-at (signalPart s) (judgedCall (call start)) ch (found (c .before .before .before .before .before .before .before .before .before .before .before .before .before .before .before .before .before) many)
+            (active-at (signalPart s) (call start) ch (found (c .before .before .before .before .before .before .before .before .before .before .before .before .before .before .before .before .before) many)
             (omega (arith, inside (c .before .before .before .before .before .before .before .before .before .before .before .before), a .lent .counts, a .count)) (omega (arith, a .lent .counts, a .count, a .few)))
-            (active-within (signalPart s) (judgedCall (call start)) ch some),
+            (active-within (signalPart s) (call start) ch some),
       ),
       (long-capture, long-residual, long-average, long-compensated),
     )

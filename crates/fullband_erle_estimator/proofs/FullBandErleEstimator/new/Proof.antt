@@ -4,6 +4,7 @@ use mathlib.Core.Path.{_∙_, sym}
 use lib.Ieee.{ofBits}
 use Rattle.fullband_erle_estimator.specs.FullBand.{refusedSettings, startAnswer}
 use Rattle.fullband_erle_estimator.proofs.Judged.{min-above, no-minimum-above}
+use Rattle.fullband_erle_estimator.proofs.Runs.{start-promises}
 use Rattle.fullband_erle_estimator.proofs.FullBandErleEstimator.new.Statement.{statement}
 use Rattle.fullband_erle_estimator.proofs.FullBandErleEstimator.new.Tie as tie
 
@@ -16,12 +17,15 @@ started-requires-2 c κs = rw (c .refused-settings .ensures) no-minimum-above
 
 returns : tie.Need-returns
 unfolding startAnswer
-returns c = simp (c .started .ensures, sym (c .before .before .refusal .ensures), eq-eqb _ _ (c .before .if1 .taken))
+returns c =
+    start-promises (c .before .before .before .args .settings)
+    (simp (c .started .ensures, sym (c .before .before .refusal .ensures), eq-eqb _ _ (c .before .if1 .taken)))
 
 returns-2 : tie.Need-returns-2
 unfolding startAnswer
 returns-2 c =
-    simp (c .started2 .ensures, c .before .refused-settings .ensures, sym (c .before .before .before .refusal .ensures), ne-eqb _ _ (c .before .before .if1 .left))
+    start-promises (c .before .before .before .before .args .settings)
+    (simp (c .started2 .ensures, c .before .refused-settings .ensures, sym (c .before .before .before .refusal .ensures), ne-eqb _ _ (c .before .before .if1 .left)))
 
 pub new-spec : {M : Type 1} → statement M
 new-spec =

@@ -2,17 +2,21 @@ use borrow.Author.Needs.{needs}
 use borrow.Author.Tests.{eq-eqb, ne-eqb}
 use mathlib.Core.Path.{sym}
 use Rattle.signal_dependent_erle_estimator.specs.SignalDependent.{startAnswer}
+use Rattle.signal_dependent_erle_estimator.proofs.Runs.{start-promises}
 use Rattle.signal_dependent_erle_estimator.proofs.SignalDependentErleEstimator.new.Statement.{statement}
 use Rattle.signal_dependent_erle_estimator.proofs.SignalDependentErleEstimator.new.Tie as tie
 
 returns : tie.Need-returns
 unfolding startAnswer
-returns c = simp (c .started .ensures, sym (c .before .before .refusal .ensures), eq-eqb _ _ (c .before .if1 .taken))
+returns c =
+    start-promises (c .before .before .before .args .settings)
+    (simp (c .started .ensures, sym (c .before .before .refusal .ensures), eq-eqb _ _ (c .before .if1 .taken)))
 
 returns-2 : tie.Need-returns-2
 unfolding startAnswer
 returns-2 c =
-    simp (c .started2 .ensures, c .before .refused-settings .ensures, sym (c .before .before .before .refusal .ensures), ne-eqb _ _ (c .before .before .if1 .left))
+    start-promises (c .before .before .before .before .args .settings)
+    (simp (c .started2 .ensures, c .before .refused-settings .ensures, sym (c .before .before .before .refusal .ensures), ne-eqb _ _ (c .before .before .if1 .left)))
 
 pub new-spec : {M : Type 1} → statement M
 new-spec =

@@ -2,8 +2,10 @@ use borrow.Author.Needs.{needs}
 use borrow.Author.Tests.{eqb-true, ltb-true}
 use mathlib.Core.Path.{_≡_, _∙_, sym}
 use mathlib.Core.Bool.{true}
+use Prim.Native.Nat.{ℕ}
 use lib.Dec.{eqb, ltb}
 use Rattle.aec3_common.specs.Refusal.{accepted}
+use Rattle.aec3_common.specs.Spectra.{part}
 use Rattle.aec3_common.proofs.Choices.{and-left, and-right, cond-neither}
 use Rattle.signal_dependent_erle_estimator.specs.SignalDependent.{Update, updateRefusal, updated, afterAccepted, updateAnswer}
 use Rattle.signal_dependent_erle_estimator.proofs.Judged.{settings-passed, update-passed}
@@ -23,10 +25,12 @@ call c =
       render = a .x2 .now;
       capture = a .y2 .now;
       residual = a .e2 .now;
-      average = a .average .now;
-      averageCompensated = a .average-compensated .now;
       converged = a .converged-filters .now;
     }
+
+-- the number under which it is turned away, or 0
+abbrev refusal : tie.Start → ℕ
+refusal c = updateRefusal (c .args .self) (call c) (c .args .average .now) (c .args .average-compensated .now)
 
 update-refusal-requires : tie.Need-update-refusal-requires
 update-refusal-requires c κs = λ ok. settings-passed (c .before .before .before .before .before .before .before .before .before .before .before .args .self) (sym (c .ok .ensures) ∙ ok)
@@ -34,7 +38,7 @@ update-refusal-requires c κs = λ ok. settings-passed (c .before .before .befor
 -- the call is judged
 refused-by :
     (c : tie.After-update-refusal)
-    → let start = c .before .before .before .before .before .before .before .before .before .before .before .before in c .update-refusal .result ≡ updateRefusal (start .args .self) (call start)
+    → let start = c .before .before .before .before .before .before .before .before .before .before .before .before in c .update-refusal .result ≡ refusal start
 unfolding updateRefusal
 refused-by c = c .update-refusal .ensures ∙ simp (c .before .ok .ensures)
 
@@ -42,15 +46,14 @@ refused-by c = c .update-refusal .ensures ∙ simp (c .before .ok .ensures)
 accepted-call :
     (c : tie.Then1)
     → let start = c .before .before .before .before .before .before .before .before .before .before .before .before .before .before in
-    (eqb (updateRefusal (start .args .self) (call start)) accepted ≡ true) × (ltb 1 (start .args .self .settings .«num_sections») ≡ true)
+    (eqb (refusal start) accepted ≡ true) × (ltb 1 (start .args .self .settings .«num_sections») ≡ true)
 accepted-call c =
     let start = c .before .before .before .before .before .before .before .before .before .before .before .before .before .before in
-    let n = updateRefusal (start .args .self) (call start) in
     let both = rw (refused-by (c .before .before)) at (c .if1 .taken) in
-    (and-left (eqb n accepted) _ both, and-right (eqb n accepted) _ both)
+    (and-left (eqb (refusal start) accepted) _ both, and-right (eqb (refusal start) accepted) _ both)
 
 updated-requires : tie.Need-updated-requires
-updated-requires c κs = (ltb-true 1 _ (accepted-call c .1), update-passed _ _ (eqb-true _ accepted (accepted-call c .0)))
+updated-requires c κs = (ltb-true 1 _ (accepted-call c .1), update-passed _ _ _ _ (eqb-true _ accepted (accepted-call c .0)))
 
 returns : tie.Need-returns
 unfolding updateAnswer afterAccepted
@@ -61,9 +64,9 @@ unfolding updateAnswer afterAccepted
 returns-2 c =
     let start = c .before .before .before .before .before .before .before .before .before .before .before .before .before .before in
     let s = start .args .self in
-    let n = updateRefusal s (call start) in
     let judged = refused-by (c .before .before) in
-    let stays = cond-neither (eqb n accepted) (ltb 1 (s .settings .«num_sections»)) (updated s (call start)) s (rw judged at (c .if1 .left)) in
+    let next = updated s (call start) (part (start .args .average .now)) (part (start .args .average-compensated .now)) in
+    let stays = cond-neither (eqb (refusal start) accepted) (ltb 1 (s .settings .«num_sections»)) next s (rw judged at (c .if1 .left)) in
     λ i. record { state = stays i; refused = judged i }
 
 pub update-spec : {M : Type 1} → statement M

@@ -1,8 +1,8 @@
 -- The loop updates the state's records one by one. The measure is the records left.
 use borrow.Author.Needs.{needs}
-use mathlib.Core.Path.{_≡_, refl, sym, ap, _∙_}
+use mathlib.Core.Path.{_≡_, refl, ap, _∙_}
 use mathlib.Core.Bool.{false}
-use Prim.Native.Nat.{ℕ, _+_, _-_, _*_, _≤_, _<_}
+use Prim.Native.Nat.{ℕ, _-_, _≤_, _<_}
 use native.Mathlib.Omega.{arith}
 use lib.ListN.{length, getD}
 use Rattle.aec3_common.specs.Settings.{headroomBlocks}
@@ -51,12 +51,10 @@ call c =
       render = a .x2 .now;
       capture = a .y2 .now;
       residual = a .e2 .now;
-      average = a .average .now;
-      averageCompensated = a .average-compensated .now;
       converged = a .converged-filters .now;
     }
 
-accepted-call : (c : tie.Start Inv-loop μ-loop) → Passed (c .args .t1) (call c)
+accepted-call : (c : tie.Start Inv-loop μ-loop) → Passed (c .args .t1) (call c) (c .args .average .now) (c .args .average-compensated .now)
 accepted-call c = c .pre .1
 
 few : (c : tie.Start Inv-loop μ-loop) → c .args .num-capture-channels ≤ 4
@@ -123,10 +121,10 @@ part-requires-2 : tie.Need-part-requires-2 Inv-loop μ-loop
 part-requires-2 c κs = omega (arith, c .before .before .before .before .before .loop-test .taken, accepted-call (entry (c .before .before .before .before .before)) .residual)
 
 part-requires-3 : tie.Need-part-requires-3 Inv-loop μ-loop
-part-requires-3 c κs = omega (arith, c .before .before .before .before .before .before .loop-test .taken, accepted-call (entry (c .before .before .before .before .before .before)) .average)
+part-requires-3 c κs = omega (arith, c .before .before .before .before .before .before .loop-test .taken, accepted-call (entry (c .before .before .before .before .before .before)) .plain)
 
 part-requires-4 : tie.Need-part-requires-4 Inv-loop μ-loop
-part-requires-4 c κs = omega (arith, c .before .before .before .before .before .before .before .loop-test .taken, accepted-call (entry (c .before .before .before .before .before .before .before)) .averageCompensated)
+part-requires-4 c κs = omega (arith, c .before .before .before .before .before .before .before .loop-test .taken, accepted-call (entry (c .before .before .before .before .before .before .before)) .compensated)
 
 update-requires : tie.Need-update-requires Inv-loop μ-loop
 update-requires c κs =
@@ -145,8 +143,8 @@ update-requires c κs =
         (
           ap length (c .before .before .before .part .ensures) ∙ part-length _ ch (omega (arith, h, ok .capture)),
           ap length (c .before .before .part2 .ensures) ∙ part-length _ ch (omega (arith, h, ok .residual)),
-          ap length (c .before .part3 .ensures) ∙ part-length _ ch (omega (arith, h, ok .average)),
-          ap length (c .part4 .ensures) ∙ part-length _ ch (omega (arith, h, ok .averageCompensated)),
+          ap length (c .before .part3 .ensures) ∙ part-length _ ch (omega (arith, h, ok .plain)),
+          ap length (c .part4 .ensures) ∙ part-length _ ch (omega (arith, h, ok .compensated)),
         ),
       ),
     )
@@ -170,7 +168,7 @@ returns c =
     let at = c .before in
     let start = at .before .before .before .before .before .before .before .before .before .before .before .before .before .before .before .before in
     let ok = accepted-call start in
-    updating-over (at .loop .inv .1) (call start) (omega (arith, c .loop-test .left, ok .count)) (omega (arith, ok .counts, ok .count))
+    updating-over (at .loop .inv .1) (call start) _ _ (omega (arith, c .loop-test .left, ok .count)) (omega (arith, ok .counts, ok .count))
     (omega (arith, ok .counts, few start))
     (found (at .before .before))
     (at .before .subband-sums .ensures) (λ ch. refl)

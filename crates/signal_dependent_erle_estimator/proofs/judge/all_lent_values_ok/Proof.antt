@@ -1,10 +1,8 @@
 use borrow.Author.Needs.{needs}
-use Rattle.signal_dependent_erle_estimator.specs.SignalDependent.{allValuesOk}
 use Rattle.signal_dependent_erle_estimator.proofs.judge.all_lent_values_ok.Statement.{statement}
 use Rattle.signal_dependent_erle_estimator.proofs.judge.all_lent_values_ok.Tie as tie
 
 returns : tie.Need-returns
-unfolding allValuesOk
 returns c =
     simp (
       c .values-ok4 .ensures,

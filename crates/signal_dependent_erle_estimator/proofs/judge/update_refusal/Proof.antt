@@ -4,7 +4,7 @@ use mathlib.Core.Path.{_≡_, _∙_, sym, ap}
 use native.Mathlib.Omega.{arith}
 use Prim.Native.Nat.{ℕ}
 use Rattle.aec3_common.specs.Settings.{headroomBlocks}
-use Rattle.signal_dependent_erle_estimator.specs.SignalDependent.{ringRefusal, refusalOf}
+use Rattle.signal_dependent_erle_estimator.specs.SignalDependent.{ringRefusal, lentValuesOk, allValuesOk, refusalOf}
 use Rattle.signal_dependent_erle_estimator.proofs.Judged.{few-captures, sixteen-blocks, ring-passed}
 use Rattle.signal_dependent_erle_estimator.proofs.judge.update_refusal.Statement.{statement}
 use Rattle.signal_dependent_erle_estimator.proofs.judge.update_refusal.Tie as tie
@@ -59,7 +59,7 @@ returns-4 c =
     )
 
 returns-5 : tie.Need-returns-5
-unfolding refusalOf
+unfolding refusalOf allValuesOk lentValuesOk
 returns-5 c =
     simp (
       not-false (entry (c .before .before .before .before .before .before .before .before .before) .args .state-ok) (c .before .before .before .before .before .before .before .before .before .if1 .left),
@@ -70,7 +70,7 @@ returns-5 c =
     )
 
 returns-6 : tie.Need-returns-6
-unfolding refusalOf
+unfolding refusalOf allValuesOk lentValuesOk
 returns-6 c =
     simp (
       not-false (entry (c .before .before .before .before .before .before .before .before .before) .args .state-ok) (c .before .before .before .before .before .before .before .before .before .if1 .left),

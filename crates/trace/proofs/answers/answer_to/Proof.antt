@@ -18,7 +18,7 @@ started : tie.Need-returns
 unfolding answerOf
 started c =
     let judged = c .before .before .before in
-    c .new .ensures
+    c .new .ensures .0
     ∙ simp (c .before .settings-in .ensures, c .before .before .startup-in .ensures)
     (sym (by-settings _ _ _ _ _ (sym (judged .before .kind-of .ensures) ∙ judged .if1 .taken)))
 

@@ -10,7 +10,7 @@ use Rattle.trace.proofs.steps.beginning.Tie as tie
 
 returns : tie.Need-returns
 unfolding beginning refusedSettings
-returns c = rw (c .before .new .ensures)
+returns c = rw (c .before .new .ensures .0)
 
 pub beginning-spec : {M : Type 1} → statement M
 beginning-spec = tie.close (tie.spec (λ c κs. search needs) returns)
