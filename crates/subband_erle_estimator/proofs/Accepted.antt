@@ -34,7 +34,7 @@ answer-not-20 s (update channels converged render capture residual) ok e =
     update-not-20 (s .settings .«num_capture_channels») channels converged render capture residual (rw ok at e)
 answer-not-20 s reset ok e = let never : _≡_ {A = ℕ} 0 20 = rw ok at e in omega arith
 
-pub never-bad-state : (g : SubbandSettings) → startAnswer g .refused ≡ accepted → NeverBadState g
+pub never-bad-state : (g : SubbandSettings) → startAnswer g .refused ≡ accepted → NeverBadState (startAnswer g .state)
 unfolding NeverBadState startAnswer run
 never-bad-state g e calls next =
     let s = run (startAnswer g .state) calls in

@@ -44,7 +44,7 @@ impl SubbandErleEstimator {
     pub fn new(settings: SubbandSettings) -> SubbandAnswer
         ensures { λ r. ⌜ r ≡ startAnswer settings ⌝ }
         ensures { λ r. ⌜ ((calls : List Call) → r .refused ≡ accepted → RangeAndRest settings calls) ⌝ }
-        ensures { λ r. ⌜ (r .refused ≡ accepted → NeverBadState settings) ⌝ }
+        ensures { λ r. ⌜ (r .refused ≡ accepted → NeverBadState (r .state)) ⌝ }
     {
         let refused = settings.refusal();
         if refused == ACCEPTED {
