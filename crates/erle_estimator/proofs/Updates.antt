@@ -12,7 +12,7 @@ use Rattle.aec3_common.specs.Lists.{tab}
 use Rattle.aec3_common.specs.Settings.{headroomBlocks}
 use Rattle.aec3_common.specs.Spectra.{part, sum}
 use Rattle.aec3_common.proofs.Choices.{cond-by, cond-same}
-use Rattle.aec3_common.proofs.Tables.{Stored, length-tab, getD-tab-first, tab-is, tab-same, stored-none, stored-more, stored-firsts}
+use Rattle.aec3_common.proofs.Tables.{Stored, getD-tab-first, tab-is, tab-same, stored-none, stored-more, stored-firsts}
 use Rattle.section_echoes.specs.Steps.{allActive}
 use Rattle.correction_factors.specs.Factors.{subbandSums}
 use Rattle.subband_erle_estimator.specs.declared.settings.SubbandSettings.{SubbandSettings}
@@ -20,7 +20,7 @@ use Rattle.subband_erle_estimator.specs.declared.channel.SubbandChannel.{Subban
 use Rattle.subband_erle_estimator.specs.declared.SubbandErleEstimator.{SubbandErleEstimator}
 use Rattle.subband_erle_estimator.specs.Channel.{channelAfter as Subband·channelAfter}
 use Rattle.subband_erle_estimator.specs.Subband.{noChannel as Subband·noChannel, channelAt as Subband·channelAt, updated as Subband·updated}
-use Rattle.subband_erle_estimator.proofs.Updates.{channelOf as Subband·channelOf}
+use Rattle.subband_erle_estimator.proofs.Updates.{channelOf as Subband·channelOf, channel-long}
 use Rattle.signal_dependent_erle_estimator.specs.declared.settings.SignalDependentSettings.{SignalDependentSettings}
 use Rattle.signal_dependent_erle_estimator.specs.declared.channel.SignalDependentChannel.{SignalDependentChannel}
 use Rattle.signal_dependent_erle_estimator.specs.Channel.{Lent, channelAfter as SignalDependent·channelAfter}
@@ -154,8 +154,7 @@ module _ (s : ErleEstimator) (converged : List Bool) (x y e : List Float) where
 
   -- the streams of a subband record have 65 bands
   pub streams-long : (ch : ℕ) → (length (subbandOf ch .erle) ≡ 65) × (length (subbandOf ch .«erle_onset_compensated») ≡ 65)
-  unfolding Subband·channelOf Subband·channelAfter
-  streams-long ch = (length-tab 65 _, length-tab 65 _)
+  streams-long ch = let long = channel-long (subbandPart s) converged x y e ch in (long .plain, long .compensated)
 
 -- ---- the loop is over
 
