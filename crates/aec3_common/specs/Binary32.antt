@@ -44,9 +44,13 @@ smaller a b = cond (lt b a) b a
 unfoldable pub moved : Float → Float → Float → Float
 moved old new share = add binary32 old (mul binary32 share (sub binary32 new old))
 
--- a value in 0 to hi: negative zero passes, a NaN does not
+-- a number, not below lo nor above hi; a NaN fails
+abbrev pub numberFrom : Float → Float → Float → Bool
+numberFrom lo hi x = le lo x && le x hi
+
+-- a value in 0 to hi: negative zero passes
 abbrev pub within : Float → Float → Bool
-within hi x = le zero32 x && le x hi
+within hi x = numberFrom zero32 hi x
 
 -- number 6: every spectrum or response value lies in 0 to 2^100
 abbrev pub valuesOk : List Float → Bool

@@ -1,10 +1,11 @@
 -- The range that every figure keeps, over lists of calls.
 use mathlib.Core.Path.{_≡_}
-use mathlib.Core.Bool.{Bool, true, _&&_}
+use mathlib.Core.Bool.{Bool, true}
 use mathlib.Core.List.{List}
 use Prim.Native.Nat.{ℕ, _<_}
-use lib.Ieee.{Float, nan, le}
+use lib.Ieee.{Float, nan}
 use lib.ListN.{getD}
+use Rattle.aec3_common.specs.Binary32.{numberFrom}
 use Rattle.aec3_common.specs.Calls.{runBy}
 use Rattle.erl_bands.specs.Figure.{minErl, maxErl}
 use Rattle.erl_estimator.specs.declared.ErlEstimator.{ErlEstimator}
@@ -24,9 +25,9 @@ after s reset = afterReset s
 unfoldable pub run : ErlEstimator → List Call → ErlEstimator
 run s calls = runBy after s calls
 
--- a number, not below 0.01 nor above 1,000; a NaN fails
+-- a number, not below 0.01 nor above 1,000
 abbrev pub inRange : Float → Bool
-inRange x = le minErl x && le x maxErl
+inRange x = numberFrom minErl maxErl x
 
 -- the ERL of each of the 65 bands and the time-domain ERL
 pub record AllInRange (s : ErlEstimator) : Type 0 where

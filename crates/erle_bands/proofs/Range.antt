@@ -18,7 +18,7 @@ use Rattle.aec3_common.proofs.Choices.{cond-has}
 use Rattle.aec3_common.proofs.Fitting.{Between, level, clamped-between, times-at-most}
 use Rattle.aec3_common.proofs.Numbers.{number, UpTo, Value, Whole, no-sum, add-up-to, whole-multiple, ratio-plus, moved-number}
 use Rattle.aec3_common.proofs.Rounding.{Signed}
-use Rattle.erle_bands.specs.Band.{shareUp, shareDown, decayFactor, share, streamMoved, Sums, sumWith, added, hasRatio, ratio, Streams, learnt, Onset, waitsLearnt, holdLearnt, onsetLearnt, holdLess, decayed, compensatedBeside, oneBlockLess}
+use Rattle.erle_bands.specs.Band.{shareUp, shareDown, decayFactor, share, streamMoved, Sums, sumWith, added, hasRatio, ratio, Streams, streamsLearnt, Onset, waitsLearnt, holdLearnt, onsetLearnt, holdLess, decayed, compensatedBeside, oneBlockLess}
 
 -- ---- a minimum and a maximum
 
@@ -131,11 +131,11 @@ pub record StreamsKept (min max : Float) (s : Streams) : Type 0 where
   pub plain : Between min max (s .plain)
   pub uncapped : Between min greatestErle (s .uncapped)
 
-pub learnt-kept :
+pub streams-learnt-kept :
     {min max new : Float} (low : Bool) {s : Streams} → InOrder min max → Signed false new
-    → StreamsKept min max s → StreamsKept min max (learnt min max new low s)
-unfolding learnt
-learnt-kept low limits plus kept =
+    → StreamsKept min max s → StreamsKept min max (streamsLearnt min max new low s)
+unfolding streamsLearnt
+streams-learnt-kept low limits plus kept =
     record {
       plain = moved-between limits (kept .plain) low plus;
       uncapped = moved-between (uncapped-in-order limits) (kept .uncapped) low plus;

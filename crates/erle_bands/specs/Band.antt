@@ -1,12 +1,14 @@
 -- One band of one channel of the subband estimator: what it holds, in three parts, and how a block moves each. The rule of each field has
 -- a name and stands once.
-use mathlib.Core.Bool.{Bool, true, false, cond, _||_}
+use mathlib.Core.Bool.{Bool, true, false, cond, _&&_, _||_}
+use Prim.Native.Nat.{ℕ}
 use lib.IntN.{ℤ, pos}
 use lib.Signed.{leZ}
 use lib.Ieee.{Float, binary32, ofBits, add, mul, div, lt}
 use Rattle.aec3_common.specs.Binary32.{zero32, energyThreshold, clamped, larger, moved}
 use Rattle.aec3_common.specs.Counts.{fallen}
 use Rattle.aec3_common.specs.Settings.{greatestErle}
+use Rattle.aec3_common.specs.Spectra.{innerBand}
 
 -- 0.05, 0.1: the share of the difference by which a stream moves up, and down
 abbrev pub shareUp : Float
@@ -63,6 +65,16 @@ hasRatio residual = lt zero32 residual
 abbrev pub ratio : Float → Float → Float
 ratio capture residual = div binary32 capture residual
 
+-- ---- which bands
+
+-- the bands that have a ratio and learn from it: 1 to 63 with a residual sum above 0
+abbrev pub learns : ℕ → Float → Bool
+learns k residual = innerBand k && hasRatio residual
+
+-- the bands whose hold falls in every update: 1 to 63 where onset detection is on
+abbrev pub holdFalls : Bool → ℕ → Bool
+holdFalls on k = on && innerBand k
+
 -- ---- the streams that only a new ratio moves
 
 -- the plain and the uncapped ERLE
@@ -74,9 +86,9 @@ pub record Streams : Type 0 where
 abbrev pub freshStreams : Float → Streams
 freshStreams min = record { plain = min; uncapped = min }
 
--- The plain stream goes up to the band's maximum, the uncapped one up to 100,000.
-unfoldable pub learnt : Float → Float → Float → Bool → Streams → Streams
-learnt min max new low s =
+-- A new ratio moves the plain stream, up to the band's maximum, and the uncapped one, up to 100,000.
+unfoldable pub streamsLearnt : Float → Float → Float → Bool → Streams → Streams
+streamsLearnt min max new low s =
     record {
       plain = streamMoved min max new low (s .plain);
       uncapped = streamMoved min greatestErle new low (s .uncapped);
@@ -120,15 +132,15 @@ holdLess hold = cond (leZ (fallen hold) (pos 0)) (pos 0) (fallen hold)
 unfoldable pub decayed : Float → Float → Float → Float
 decayed min onset x = cond (lt onset x) (larger (larger onset (mul binary32 decayFactor x)) min) x
 
--- it does so beside a hold of 150 or less
+-- it does so where the lowered hold is 150 or less
 unfoldable pub compensatedBeside : Float → ℤ → Float → Float → Float
 compensatedBeside min hold onset x = cond (leZ hold (pos 150)) (decayed min onset x) x
 
--- beside a hold of 0 or less the band waits
+-- where the lowered hold is 0 or less the band waits
 unfoldable pub waitsBeside : ℤ → Bool → Bool
 waitsBeside hold waits = cond (leZ hold (pos 0)) true waits
 
--- One block less to hold; compensated value and waiting go by the hold after it.
+-- One block less to hold; compensated value and waiting go by the lowered hold.
 unfoldable pub oneBlockLess : Float → Onset → Onset
 oneBlockLess min o =
     let hold = holdLess (o .hold) in

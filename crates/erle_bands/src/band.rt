@@ -8,7 +8,7 @@ ghost use mathlib.Core.Path.{_≡_};
 ghost use mathlib.Core.Bool.{cond, not, _&&_};
 ghost use Rattle.erle_bands.specs.Band.{share as Band·share, streamMoved, sumWith, lowWith, hasRatio, waitsLearnt, holdLearnt, holdLess, decayed as Band·decayed, compensatedBeside, waitsBeside};
 
-// For so many blocks a band with a new ratio is held.
+// For so many blocks a band with a new ratio without low energy is held.
 const BLOCKS_FOR_ONSET_DETECTION: i32 = 250;
 
 // At so many blocks or less its compensated value decays.

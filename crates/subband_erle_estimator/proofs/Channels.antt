@@ -11,19 +11,15 @@ use Rattle.aec3_common.proofs.Bands.{shown-inner, inner-shown, shown-below}
 use Rattle.aec3_common.proofs.Choices.{and-right, and-false, cond-has}
 use Rattle.aec3_common.proofs.Rounding.{Signed}
 use Rattle.filter_sections.specs.Subbands.{maxErle}
-use Rattle.erle_bands.specs.Band.{Sums, freshSums, hasRatio, Streams, freshStreams, Onset, freshOnset, onsetLearnt, oneBlockLess}
-use Rattle.erle_bands.proofs.Range.{InOrder, min-between, uncapped-in-order, ratio-signed, StreamsKept, learnt-kept, OnsetKept, onset-learnt-kept, one-block-less-kept}
+use Rattle.erle_bands.specs.Band.{Sums, freshSums, hasRatio, ratio, learns, holdFalls, Streams, freshStreams, Onset, freshOnset, onsetLearnt, oneBlockLess}
+use Rattle.erle_bands.proofs.Range.{InOrder, min-between, uncapped-in-order, ratio-signed, StreamsKept, streams-learnt-kept, OnsetKept, onset-learnt-kept, one-block-less-kept}
 use Rattle.subband_erle_estimator.specs.declared.settings.SubbandSettings.{SubbandSettings}
 use Rattle.subband_erle_estimator.specs.declared.channel.SubbandChannel.{SubbandChannel}
-use Rattle.subband_erle_estimator.specs.Channel.{streamsAt, onsetAt, channelFrom, compensatedShown, fresh, Block, pointsAfter, sumsAfter, isSixth, isNew, newRatio, streamsAfter, onsetAfter, channelAfter}
+use Rattle.subband_erle_estimator.specs.Channel.{streamsAt, onsetAt, channelFrom, compensatedShown, fresh, Block, maxAt, onsetLearntAt, streamsLearntAt, pointsAfter, sumsAfter, isSixth, streamsAfter, onsetAfter, channelAfter}
 use Rattle.subband_erle_estimator.proofs.Parts.{streams-from, onset-from}
 use Rattle.subband_erle_estimator.proofs.Sums.{ChannelSums, fresh-sums, BlockOk, sums-after, after-sums}
 
 -- ---- bands
-
--- a band's maximum
-abbrev pub maxOf : SubbandSettings → ℕ → Float
-maxOf s k = maxErle (s .«max_l») (s .«max_h») k
 
 -- a band has the maximum of the band that it shows
 max-shown : (l h : Float) (k : ℕ) → maxErle l h (shownBand k) ≡ maxErle l h k
@@ -43,13 +39,13 @@ pub record Copied (c : SubbandChannel) (k : ℕ) : Type 0 where
   pub compensated : onsetAt c k .compensated ≡ onsetAt c (shownBand k) .compensated
 
 abbrev pub AllInOrder : SubbandSettings → Type 0
-AllInOrder s = (k : ℕ) → InOrder (s .min) (maxOf s k)
+AllInOrder s = (k : ℕ) → InOrder (s .min) (maxAt s k)
 
 -- What a channel keeps: its sums, bands in range, onset values at the minimum, bands 0 and 64 as copies that wait.
 pub record ChannelKept (s : SubbandSettings) (c : SubbandChannel) : Type 0 where
   pub sums : ChannelSums c
-  pub streams : (k : ℕ) → k < 65 → StreamsKept (s .min) (maxOf s k) (streamsAt c k)
-  pub onset : (k : ℕ) → k < 65 → OnsetKept (s .min) (maxOf s k) (onsetAt c k)
+  pub streams : (k : ℕ) → k < 65 → StreamsKept (s .min) (maxAt s k) (streamsAt c k)
+  pub onset : (k : ℕ) → k < 65 → OnsetKept (s .min) (maxAt s k) (onsetAt c k)
   pub onsetMin : (k : ℕ) → k < 65 → onsetAt c k .onset ≡ s .min
   pub copied : (k : ℕ) → k < 65 → Copied c k
   pub outer : (k : ℕ) → k < 65 → innerBand k ≡ false → onsetAt c k .waits ≡ true
@@ -74,8 +70,8 @@ module _ (s : SubbandSettings) (n : ℕ) (sums : ℕ → Sums) (streams : ℕ �
 
   module _
       (heard : ChannelSums record-shown)
-      (inRange : (k : ℕ) → k < 65 → StreamsKept (s .min) (maxOf s k) (streams k))
-      (held : (k : ℕ) → k < 65 → OnsetKept (s .min) (maxOf s k) (onset k))
+      (inRange : (k : ℕ) → k < 65 → StreamsKept (s .min) (maxAt s k) (streams k))
+      (held : (k : ℕ) → k < 65 → OnsetKept (s .min) (maxAt s k) (onset k))
       (least : (k : ℕ) → k < 65 → onset k .onset ≡ s .min)
       (waiting : (k : ℕ) → k < 65 → innerBand k ≡ false → onset k .waits ≡ true)
     where
@@ -85,10 +81,10 @@ module _ (s : SubbandSettings) (n : ℕ) (sums : ℕ → Sums) (streams : ℕ �
           record {
             sums = heard;
             streams = λ k h.
-                subst (StreamsKept (s .min) (maxOf s k)) (sym (streams-shown k h))
+                subst (StreamsKept (s .min) (maxAt s k)) (sym (streams-shown k h))
                 (rw (← max-shown (s .«max_l») (s .«max_h») k) (inRange (shownBand k) (shown-below k h)));
             onset = λ k h.
-                subst (OnsetKept (s .min) (maxOf s k)) (sym (onset-shown k h))
+                subst (OnsetKept (s .min) (maxAt s k)) (sym (onset-shown k h))
                 (record {
                   compensated = rw (← max-shown (s .«max_l») (s .«max_h») k) (held (shownBand k) (shown-below k h) .compensated);
                   onset = held k h .onset;
@@ -115,17 +111,14 @@ fresh-kept s limits =
     (λ k h out. refl)
 
 module _ (s : SubbandSettings) (b : Block) (c : SubbandChannel) where
-  new-ratio : (k : ℕ) → isNew s b c k ≡ true → hasRatio (sumsAfter s b c k .residual) ≡ true
-  new-ratio k e =
-      and-right (innerBand k) (hasRatio (sumsAfter s b c k .residual))
-      (and-right (isSixth s b c) (innerBand k && hasRatio (sumsAfter s b c k .residual)) e)
-
   -- no update moves an onset value, nor what onset detection holds in bands 0 and 64
   onset-stays : (k : ℕ) → onsetAfter s b c k .onset ≡ onsetAt c k .onset
-  unfolding onsetAfter onsetLearnt oneBlockLess
+  unfolding onsetAfter onsetLearntAt onsetLearnt oneBlockLess
   onset-stays k =
-      cond-has (λ (o : Onset). o .onset ≡ onsetAt c k .onset) (s .«onset_detection» && innerBand k)
-      (λ on. cond-has (λ (o : Onset). oneBlockLess (s .min) o .onset ≡ onsetAt c k .onset) (isNew s b c k) (λ e. refl) (λ e. refl))
+      let Stays : Onset → Type 0 = λ o. o .onset ≡ onsetAt c k .onset in
+      cond-has Stays (holdFalls (s .«onset_detection») k)
+      (λ on.
+      cond-has Stays (isSixth s b c) (λ six. cond-has Stays (learns k (sumsAfter s b c k .residual)) (λ e. refl) (λ e. refl)) (λ few. refl))
       (λ off. refl)
 
   outer-stays : (k : ℕ) → innerBand k ≡ false → onsetAfter s b c k ≡ onsetAt c k
@@ -133,25 +126,34 @@ module _ (s : SubbandSettings) (b : Block) (c : SubbandChannel) where
   outer-stays k out = rw (out, and-false (s .«onset_detection»))
 
   module _ (limits : AllInOrder s) (ok : BlockOk b) (kept : ChannelKept s c) where
-    ratio-plus : (k : ℕ) → k < 65 → isNew s b c k ≡ true → Signed false (newRatio s b c k)
-    ratio-plus k h e = ratio-signed (new-ratio k e) (sums-after s b c ok (kept .sums) k h)
+    ratio-plus :
+        (k : ℕ) → k < 65 → learns k (sumsAfter s b c k .residual) ≡ true
+        → Signed false (ratio (sumsAfter s b c k .capture) (sumsAfter s b c k .residual))
+    ratio-plus k h e = ratio-signed (and-right (innerBand k) (hasRatio (sumsAfter s b c k .residual)) e) (sums-after s b c ok (kept .sums) k h)
 
-    streams-kept : (k : ℕ) → k < 65 → StreamsKept (s .min) (maxOf s k) (streamsAfter s b c k)
-    unfolding streamsAfter
+    streams-kept : (k : ℕ) → k < 65 → StreamsKept (s .min) (maxAt s k) (streamsAfter s b c k)
+    unfolding streamsAfter streamsLearntAt
     streams-kept k h =
-        cond-has (StreamsKept (s .min) (maxOf s k)) (isNew s b c k)
-        (λ e. learnt-kept (sumsAfter s b c k .low) (limits k) (ratio-plus k h e) (kept .streams k h))
-        (λ e. kept .streams k h)
+        let Kept : Streams → Type 0 = StreamsKept (s .min) (maxAt s k) in
+        cond-has Kept (isSixth s b c)
+        (λ six.
+        cond-has Kept (learns k (sumsAfter s b c k .residual))
+        (λ e. streams-learnt-kept (sumsAfter s b c k .low) (limits k) (ratio-plus k h e) (kept .streams k h))
+        (λ e. kept .streams k h))
+        (λ few. kept .streams k h)
 
-    onset-kept : (k : ℕ) → k < 65 → OnsetKept (s .min) (maxOf s k) (onsetAfter s b c k)
-    unfolding onsetAfter
+    onset-kept : (k : ℕ) → k < 65 → OnsetKept (s .min) (maxAt s k) (onsetAfter s b c k)
+    unfolding onsetAfter onsetLearntAt
     onset-kept k h =
-        let Kept : Onset → Type 0 = OnsetKept (s .min) (maxOf s k) in
-        cond-has Kept (s .«onset_detection» && innerBand k)
+        let Kept : Onset → Type 0 = OnsetKept (s .min) (maxAt s k) in
+        cond-has Kept (holdFalls (s .«onset_detection») k)
         (λ on. one-block-less-kept (limits k)
-        (cond-has Kept (isNew s b c k)
+        (cond-has Kept (isSixth s b c)
+        (λ six.
+        cond-has Kept (learns k (sumsAfter s b c k .residual))
         (λ e. onset-learnt-kept (sumsAfter s b c k .low) (limits k) (ratio-plus k h e) (kept .onset k h))
-        (λ e. kept .onset k h)))
+        (λ e. kept .onset k h))
+        (λ few. kept .onset k h)))
         (λ off. kept .onset k h)
 
     pub after-kept : ChannelKept s (channelAfter s b c)

@@ -6,5 +6,6 @@ pub mod Sums
 pub mod Channels
 pub mod Quiet
 pub mod Calls
+pub mod CutOff
 pub mod Resting
 pub mod Accepted

@@ -8,6 +8,7 @@ use lib.Dec.{eqb}
 use lib.Ieee.{Float, le}
 use lib.Ieee.Bits.{is-true}
 use lib.ListN.{length, getD}
+use Rattle.aec3_common.specs.Binary32.{numberFrom}
 use Rattle.aec3_common.specs.Calls.{Call, update, reset, runBy}
 use Rattle.aec3_common.specs.Lists.{every}
 use Rattle.aec3_common.specs.Refusal.{accepted}
@@ -19,7 +20,7 @@ use Rattle.erle_bands.proofs.Rest.{resting-start}
 use Rattle.subband_erle_estimator.specs.declared.settings.SubbandSettings.{SubbandSettings}
 use Rattle.subband_erle_estimator.specs.declared.SubbandErleEstimator.{SubbandErleEstimator}
 use Rattle.subband_erle_estimator.specs.Subband.{startAnswer, resetAnswer, updateAnswer, channelAt, blockOf}
-use Rattle.subband_erle_estimator.specs.Resting.{answer, run, acceptedOf, unconverged, numberFrom, AtRest, RangeAndRest}
+use Rattle.subband_erle_estimator.specs.Resting.{answer, run, acceptedOf, unconverged, AtRest, RangeAndRest}
 use Rattle.subband_erle_estimator.proofs.Quiet.{ChannelResting, after-resting, rest-compensated, rest-waits}
 use Rattle.subband_erle_estimator.proofs.Calls.{InBinary32, SettingsOk, settings-ok, Kept, start-answer-kept, run-kept, updated-channel, updated-kept}
 

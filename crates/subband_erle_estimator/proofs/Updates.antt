@@ -11,14 +11,14 @@ use Rattle.aec3_common.proofs.Tables.{Stored, stored-more, stored-firsts}
 use Rattle.subband_erle_estimator.specs.declared.channel.SubbandChannel.{SubbandChannel}
 use Rattle.subband_erle_estimator.specs.declared.settings.SubbandSettings.{SubbandSettings}
 use Rattle.subband_erle_estimator.specs.declared.SubbandErleEstimator.{SubbandErleEstimator}
-use Rattle.subband_erle_estimator.specs.Channel.{quiet, sumsAfter, streamsAfter, onsetAfter, channelAfter}
+use Rattle.subband_erle_estimator.specs.Channel.{unconvergedBlock, sumsAfter, streamsAfter, onsetAfter, channelAfter}
 use Rattle.subband_erle_estimator.specs.Subband.{stateOk, noChannel, channelAt, blockOf, updated}
 use Rattle.subband_erle_estimator.proofs.Parts.{Long, long-from}
 
 -- where a channel stands unconverged its powers are not looked at
 pub quiet-any :
     (g : SubbandSettings) (c : SubbandChannel) (x y e : List Float)
-    → channelAfter g quiet c ≡ channelAfter g (record { converged = false; render = x; capture = y; residual = e }) c
+    → channelAfter g unconvergedBlock c ≡ channelAfter g (record { converged = false; render = x; capture = y; residual = e }) c
 unfolding channelAfter sumsAfter streamsAfter onsetAfter
 quiet-any g c x y e = refl
 
@@ -40,7 +40,7 @@ module _ (s : SubbandErleEstimator) (converged : List Bool) (x y e : List Float)
 
   pub quiet-channel :
       (ch : ℕ) (c : SubbandChannel) → getD converged ch false ≡ false → c ≡ channelAt s ch
-      → channelAfter (s .settings) quiet c ≡ channelOf ch
+      → channelAfter (s .settings) unconvergedBlock c ≡ channelOf ch
   unfolding channelOf
   quiet-channel ch c off same = quiet-any (s .settings) c x (part y ch) (part e ch) ∙ simp (off, same)
 

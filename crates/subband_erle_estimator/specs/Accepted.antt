@@ -1,4 +1,4 @@
--- A state that a start, an update or a reset has left is taken up again.
+-- No state of a run from an accepted start is turned away under 20.
 use mathlib.Core.Path.{_≡_}
 use mathlib.Core.List.{List}
 use Rattle.aec3_common.specs.Calls.{Call}

@@ -7,9 +7,9 @@ use lib.IntN.{pos}
 use lib.Ieee.{Float, nan}
 use lib.ListN.{getD}
 use Rattle.aec3_common.specs.Lists.{tab}
-use Rattle.aec3_common.specs.Spectra.{innerBand, shownBand}
+use Rattle.aec3_common.specs.Spectra.{shownBand}
 use Rattle.filter_sections.specs.Subbands.{maxErle}
-use Rattle.erle_bands.specs.Band.{Sums, freshSums, added, hasRatio, ratio, Streams, freshStreams, learnt, Onset, freshOnset, onsetLearnt, oneBlockLess}
+use Rattle.erle_bands.specs.Band.{Sums, freshSums, added, ratio, learns, holdFalls, Streams, freshStreams, streamsLearnt, Onset, freshOnset, onsetLearnt, oneBlockLess}
 use Rattle.subband_erle_estimator.specs.declared.settings.SubbandSettings.{SubbandSettings}
 use Rattle.subband_erle_estimator.specs.declared.channel.SubbandChannel.{SubbandChannel}
 
@@ -32,7 +32,7 @@ onsetAt c k =
       hold = getD (c .«hold_counters») k (pos 0);
     }
 
--- and back: the record whose sums are of so many points and whose bands hold these; the one place where a record is put together
+-- and back: the record whose sums are of so many points and whose bands hold these. Start, reset and update put records together here.
 unfoldable pub channelFrom : ℕ → (ℕ → Sums) → (ℕ → Streams) → (ℕ → Onset) → SubbandChannel
 channelFrom points sums streams onset =
     record {
@@ -70,8 +70,26 @@ pub record Block : Type 0 where
   pub residual : List Float
 
 -- a block in which the channel stands unconverged: its powers are not looked at
-abbrev pub quiet : Block
-quiet = record { converged = false; render = []; capture = []; residual = [] }
+abbrev pub unconvergedBlock : Block
+unconvergedBlock = record { converged = false; render = []; capture = []; residual = [] }
+
+-- the band's maximum
+abbrev pub maxAt : SubbandSettings → ℕ → Float
+maxAt s k = maxErle (s .«max_l») (s .«max_h») k
+
+-- For bands 1 to 63 with residual sum above 0, the ratio of the sums is new.
+module _ (s : SubbandSettings) (k : ℕ) (sums : Sums) where
+  unfoldable pub streamsLearntAt : Streams → Streams
+  streamsLearntAt held =
+      cond (learns k (sums .residual))
+      (streamsLearnt (s .min) (maxAt s k) (ratio (sums .capture) (sums .residual)) (sums .low) held)
+      held
+
+  unfoldable pub onsetLearntAt : Onset → Onset
+  onsetLearntAt held =
+      cond (learns k (sums .residual))
+      (onsetLearnt (s .min) (maxAt s k) (ratio (sums .capture) (sums .residual)) (sums .low) held)
+      held
 
 -- after six points the ratio is looked at
 abbrev pub allPoints : ℕ
@@ -92,33 +110,20 @@ module _ (s : SubbandSettings) (b : Block) (c : SubbandChannel) where
       (added (eqb (c .«num_points») allPoints) (getD (b .render) k nan) (getD (b .capture) k nan) (getD (b .residual) k nan) (sumsAt c k))
       (sumsAt c k)
 
-  -- On the sixth such block, for bands 1 to 63 with residual sum above 0, the ratio is new.
+  -- on the sixth converged block the bands learn
   abbrev pub isSixth : Bool
   isSixth = b .converged && eqb (pointsWith (c .«num_points»)) allPoints
 
-  abbrev pub isNew : ℕ → Bool
-  isNew k = isSixth && (innerBand k && hasRatio (sumsAfter k .residual))
-
-  abbrev pub newRatio : ℕ → Float
-  newRatio k = ratio (sumsAfter k .capture) (sumsAfter k .residual)
-
-  -- the band's maximum
-  abbrev pub maxAt : ℕ → Float
-  maxAt k = maxErle (s .«max_l») (s .«max_h») k
-
-  -- a new ratio moves the plain and the uncapped stream
   unfoldable pub streamsAfter : ℕ → Streams
-  streamsAfter k =
-      let held = streamsAt c k in
-      cond (isNew k) (learnt (s .min) (maxAt k) (newRatio k) (sumsAfter k .low) held) held
+  streamsAfter k = let held = streamsAt c k in cond isSixth (streamsLearntAt s k (sumsAfter k) held) held
 
-  -- With onset detection on only: a new ratio moves the compensated stream, waiting and hold; then every update lets the holds of bands 1 to
-  -- 63 fall.
+  -- With onset detection on only, bands 1 to 63: what onset detection holds learns too; then, in every update, the hold falls, and by
+  -- it the compensated value decays and the band waits.
   unfoldable pub onsetAfter : ℕ → Onset
   onsetAfter k =
       let held = onsetAt c k in
-      cond (s .«onset_detection» && innerBand k)
-      (oneBlockLess (s .min) (cond (isNew k) (onsetLearnt (s .min) (maxAt k) (newRatio k) (sumsAfter k .low) held) held))
+      cond (holdFalls (s .«onset_detection») k)
+      (oneBlockLess (s .min) (cond isSixth (onsetLearntAt s k (sumsAfter k) held) held))
       held
 
   -- Bands 0 and 64 copy 1 and 63 in the three streams.

@@ -7,7 +7,6 @@ use erle_bands::onsets::hold_again;
 use erle_bands::onsets::lower_holds;
 use erle_bands::onsets::stop_waiting;
 use erle_bands::onsets::wait_again;
-use erle_bands::streams::Limits;
 use erle_bands::streams::move_stream;
 use erle_bands::sums::add_powers;
 use erle_bands::sums::note_low_energy;
@@ -16,9 +15,9 @@ ghost use mathlib.Core.Path.{_≡_};
 ghost use mathlib.Core.Bool.{true};
 ghost use Prim.Native.Nat.{_≤_};
 ghost use lib.ListN.{length};
-ghost use Rattle.subband_erle_estimator.specs.Channel.{pointsWith, fresh, quiet, channelAfter};
+ghost use Rattle.subband_erle_estimator.specs.Channel.{pointsWith, fresh, unconvergedBlock, channelAfter};
 ghost use Rattle.subband_erle_estimator.specs.Subband.{channelOk};
-ghost use Rattle.subband_erle_estimator.specs.Steps.{learntBy, onsetLearntBy};
+ghost use Rattle.subband_erle_estimator.specs.Steps.{learntBy};
 
 pub const POINTS_TO_ACCUMULATE: usize = 6;
 
@@ -72,7 +71,7 @@ impl SubbandChannel {
         self.erle
     }
 
-    // The onset-compensated ERLE; with onset detection off it is the minimum, and `erle` of the crate answers the plain one.
+    // The onset-compensated ERLE. In a run with onset detection off it is the minimum, and `erle` of the crate answers the plain one.
     pub fn erle_onset_compensated(self) -> [f32; 65]
         ensures { λ r. ⌜ r ≡ self .«erle_onset_compensated» ⌝ }
     {
@@ -151,7 +150,7 @@ impl SubbandChannel {
 
     // One update of a channel that stands unconverged.
     pub fn decay(mut self, settings: SubbandSettings) -> SubbandChannel
-        ensures { λ r. ⌜ r ≡ channelAfter settings quiet self ⌝ }
+        ensures { λ r. ⌜ r ≡ channelAfter settings unconvergedBlock self ⌝ }
     {
         let on = settings.onset_detection;
         lower_holds(&mut self.hold_counters, on);
@@ -171,8 +170,8 @@ impl SubbandChannel {
         self
     }
 
-    // The streams moved by the ratios of the sums. They are looked at from copies, so that the compiler makes vector code of
-    // the loops.
+    // What the bands learn from the ratios of the sums. Sums and low energy are looked at from copies, so that the compiler makes
+    // vector code of the loops.
     fn learnt(mut self, settings: SubbandSettings) -> SubbandChannel
         ensures { λ r. ⌜ r ≡ learntBy settings self ⌝ }
     {
@@ -180,33 +179,23 @@ impl SubbandChannel {
         let e2 = self.e2;
         let low = self.low_render_energy;
         let new_erle = ratios(&y2, &e2);
-        move_stream(&mut self.erle, &new_erle, &e2, &low, settings.limits());
-        move_stream(
-            &mut self.erle_unbounded,
-            &new_erle,
-            &e2,
-            &low,
-            settings.uncapped_limits(),
-        );
+        let limits = settings.limits();
+        let uncapped = settings.uncapped_limits();
+        move_stream(&mut self.erle, &new_erle, &e2, &low, limits);
+        move_stream(&mut self.erle_unbounded, &new_erle, &e2, &low, uncapped);
         if settings.onset_detection {
-            self.onset_learnt(&new_erle, &e2, &low, settings.limits())
+            move_stream(
+                &mut self.erle_onset_compensated,
+                &new_erle,
+                &e2,
+                &low,
+                limits,
+            );
+            stop_waiting(&mut self.coming_onset, &e2, &low);
+            hold_again(&mut self.hold_counters, &e2, &low);
+            self
         } else {
             self
         }
-    }
-
-    fn onset_learnt(
-        mut self,
-        new_erle: &[f32; 65],
-        e2: &[f32; 65],
-        low: &[bool; 65],
-        limits: Limits,
-    ) -> SubbandChannel
-        ensures { λ r. ⌜ r ≡ onsetLearntBy limits (now («new_erle» .entry)) (now (e2 .entry)) (now (low .entry)) self ⌝ }
-    {
-        move_stream(&mut self.erle_onset_compensated, new_erle, e2, low, limits);
-        stop_waiting(&mut self.coming_onset, e2, low);
-        hold_again(&mut self.hold_counters, e2, low);
-        self
     }
 }

@@ -23,7 +23,8 @@ pub struct SubbandErleEstimator {
     pub channels: [SubbandChannel; 4],
 }
 
-// The next state and 0, or the state as it was and the number under which the call is turned away.
+// The next state and 0, or the state as it was and the number under which the call is turned away. A refused start answers a fixed
+// state, which 20 turns away.
 pub struct SubbandAnswer {
     pub state: SubbandErleEstimator,
     pub refused: u32,
@@ -39,8 +40,9 @@ fn started(settings: SubbandSettings) -> SubbandErleEstimator
 }
 
 impl SubbandErleEstimator {
-    // A start. 1 and 2 are turned away, with a state that every later call turns away. It promises what holds after any list of
-    // calls: every figure in its range, an unconverged channel at rest after 500 updates, and no state that 20 turns away.
+    // A start. 1 and 2 are turned away, with a state that every later update and reset turns away. Where it accepts, it promises what
+    // holds after any list of calls: every figure in its range; with onset detection on, a channel at rest whose last 500 accepted
+    // calls are updates in which it stands unconverged; and no call that is turned away under 20.
     pub fn new(settings: SubbandSettings) -> SubbandAnswer
         ensures { λ r. ⌜ r ≡ startAnswer settings ⌝ }
         ensures { λ r. ⌜ ((calls : List Call) → r .refused ≡ accepted → RangeAndRest settings calls) ⌝ }

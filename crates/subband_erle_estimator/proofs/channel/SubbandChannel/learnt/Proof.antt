@@ -22,24 +22,42 @@ long c =
 move-stream-requires-2 : tie.Need-move-stream-requires-2
 move-stream-requires-2 c κs = long (c .before .before .before .before .before .before .before .before .before .before .before .before .before .before .before .before .before) .uncapped
 
+move-stream-requires-3 : tie.Need-move-stream-requires-3
+move-stream-requires-3 c κs = long (c .before .before .before .before .before .before .before .before .before .before .before .before .before .before .before .before .before .before .before .before .before .before .before) .compensated
+
+stop-waiting-requires : tie.Need-stop-waiting-requires
+stop-waiting-requires c κs = long (c .before .before .before .before .before .before .before .before .before .before .before .before .before .before .before .before .before .before .before .before .before .before .before .before .before .before .before) .waits
+
+hold-again-requires : tie.Need-hold-again-requires
+hold-again-requires c κs = long (c .before .before .before .before .before .before .before .before .before .before .before .before .before .before .before .before .before .before .before .before .before .before .before .before .before .before .before .before .before .before .before) .hold
+
 returns : tie.Need-returns
 returns c =
-    let a = c .before .before .before .before .before .before .before .before .before .before .before .before .before .before .before .before .before .before .before .before .before .before .before .before .args in
-    c .onset-learnt .ensures
-    ∙ simp (c .before .limits2 .ensures)
-    (learnt-on (a .settings) (a .t1) (c .before .before .before .before .before .before .before .before .before .before .before .before .before .before .before .before .before .before .ratios .ensures)
-    (c .before .before .before .before .before .before .before .before .before .before .before .before .move-stream .ensures ∙ simp (c .before .before .before .before .before .before .before .before .before .before .before .before .before .limits .ensures))
-    (c .before .before .before .before .before .before .move-stream2 .ensures ∙ simp (c .before .before .before .before .before .before .before .uncapped-limits .ensures))
-    (c .before .before .before .before .before .if1 .taken))
+    let start = c .before .before .before .before .before .before .before .before .before .before .before .before .before .before .before .before .before .before .before .before .before .before .before .before .before .before .before .before .before .before .before .before in
+    let a = start .args in
+    let limits = c .before .before .before .before .before .before .before .before .before .before .before .before .before .before .before .before .before .before .before .before .before .before .before .before .before .limits .ensures in
+    learnt-on (a .settings) (a .t1) (long start) (c .before .before .before .before .before .before .before .before .before .before .before .before .before .before .before .before .before .before .before .before .before .before .before .before .before .before .ratios .ensures) (c .before .before .before .before .before .before .before .before .before .before .before .before .before .before .before .before .before .before .before .move-stream .ensures ∙ simp limits)
+    (c .before .before .before .before .before .before .before .before .before .before .before .before .before .before .move-stream2 .ensures ∙ simp (c .before .before .before .before .before .before .before .before .before .before .before .before .before .before .before .before .before .before .before .before .before .before .before .before .uncapped-limits .ensures))
+    (c .before .before .before .before .before .before .before .before .move-stream3 .ensures ∙ simp limits) (c .before .before .before .before .stop-waiting .ensures) (c .hold-again .ensures) (c .before .before .before .before .before .before .before .before .before .before .before .before .before .if1 .taken)
 
 returns-2 : tie.Need-returns-2
 returns-2 c =
     let start = c .before .before .before .before .before .before .before .before .before .before .before .before .before .before .before .before .before .before .before in
     let a = start .args in
-    learnt-off (a .settings) (a .t1) (c .before .before .before .before .before .before .before .before .before .before .before .before .before .ratios .ensures)
-    (c .before .before .before .before .before .before .before .move-stream .ensures ∙ simp (c .before .before .before .before .before .before .before .before .limits .ensures))
-    (c .before .move-stream2 .ensures ∙ simp (c .before .before .uncapped-limits .ensures))
-    (long start) (c .if1 .left)
+    learnt-off (a .settings) (a .t1) (long start) (c .before .before .before .before .before .before .before .before .before .before .before .before .before .ratios .ensures) (c .before .before .before .before .before .before .move-stream .ensures ∙ simp (c .before .before .before .before .before .before .before .before .before .before .before .before .limits .ensures))
+    (c .before .move-stream2 .ensures ∙ simp (c .before .before .before .before .before .before .before .before .before .before .before .uncapped-limits .ensures)) (c .if1 .left)
 
 pub learnt-spec : {M : Type 1} → statement M
-learnt-spec = tie.close (tie.spec (λ c κs. search needs) (λ c κs. search needs) (λ c κs. search needs) (λ c κs. search needs) move-stream-requires-2 (λ c κs. search needs) (λ c κs. search needs) returns returns-2)
+learnt-spec =
+    tie.close
+    (tie.spec
+    (λ c κs. search needs)
+    (λ c κs. search needs)
+    (λ c κs. search needs)
+    (λ c κs. search needs)
+    move-stream-requires-2
+    move-stream-requires-3
+    stop-waiting-requires
+    hold-again-requires
+    returns
+    returns-2)

@@ -4,7 +4,7 @@ use mathlib.Core.Logic.{⊎-elim}
 use mathlib.Core.Path.{_≡_, _∙_, ap, sym, subst}
 use Rattle.subband_erle_estimator.specs.declared.channel.SubbandChannel.{SubbandChannel}
 use Rattle.subband_erle_estimator.proofs.Parts.{Long}
-use Rattle.subband_erle_estimator.proofs.After.{heardBy, heard-is, convergedBy, converged-six, converged-few, converged-long, restedBy, rested-is, after-converged}
+use Rattle.subband_erle_estimator.proofs.After.{heardBy, heard-is, convergedBy, converged-six, converged-few, converged-long, loweredBy, lowered-is, after-converged}
 use Rattle.subband_erle_estimator.proofs.channel.SubbandChannel.update.Statement.{statement}
 use Rattle.subband_erle_estimator.proofs.channel.SubbandChannel.update.Tie as tie
 
@@ -80,9 +80,9 @@ returns : tie.Need-returns
 returns c =
     let a = c .before .before .before .before .before .before .before .before .before .before .before .before .before .before .before .before .before .before .before .before .before .before .before .before .before .before .before .before .args in
     let joined = c .before .before .before .before .before .before .before .before .before .before .before .before .before .before .before .before .before in
-    rested-is (a .settings) (joined .if1 .self) (c .before .before .before .before .before .before .before .before .before .before .before .before .before .before .before .lower-holds .ensures) (whole joined) (c .before .before .before .before .before .before .before .before .before .decay-compensated .ensures)
+    lowered-is (a .settings) (joined .if1 .self) (c .before .before .before .before .before .before .before .before .before .before .before .before .before .before .before .lower-holds .ensures) (whole joined) (c .before .before .before .before .before .before .before .before .before .decay-compensated .ensures)
     (c .before .before .before .before .before .before .wait-again .ensures) (c .before .before .before .before .copy-ends .ensures) (c .before .before .copy-ends2 .ensures) (c .copy-ends3 .ensures)
-    ∙ ap (restedBy (a .settings)) (converged joined)
+    ∙ ap (loweredBy (a .settings)) (converged joined)
     ∙ after-converged (a .settings) (a .x2 .now) (a .y2 .now) (a .e2 .now) (a .t1)
 
 pub update-spec : {M : Type 1} → statement M
