@@ -22,7 +22,7 @@ use Rattle.aec3_common.specs.Refusal.{accepted}
 use Rattle.aec3_common.specs.Spectra.{shownBand, flagged, sum}
 use Rattle.aec3_common.proofs.Bands.{shown-below}
 use Rattle.aec3_common.proofs.Calls.{run-keeps}
-use Rattle.aec3_common.proofs.Choices.{and-left, and-right}
+use Rattle.aec3_common.proofs.Choices.{and-left, and-right, cond-has}
 use Rattle.aec3_common.proofs.Rounding.{failed, holds, signed-number, Minus, infinite, finite, round-minus, minus-below, round-number, at-least-if-not-below, at-most-if-not-above}
 use Rattle.aec3_common.proofs.Tables.{getD-tab}
 use Rattle.erl_bands.specs.declared.figure.Figure.{Figure}
@@ -237,22 +237,17 @@ updated-kept :
     → AllInRange s → AllInRange (updated s renders converged render capture)
 unfolding updated
 updated-kept s renders converged render capture kept =
-    go (eqb (length (flagged 0 converged)) 0 || ltb (counted s .«blocks_since_reset») (s .«startup_phase_length_blocks»))
-  where
-    same : AllInRange (counted s)
-    same = count-kept s (oneMore (s .«blocks_since_reset»)) kept
-
-    go : (t : Bool) → AllInRange (cond t (counted s) (learntFrom (counted s) (reduced render (tab renders (λ ch. ch))) (reduced capture (flagged 0 converged))))
-    go true = same
-    go false = learnt-kept (counted s) (reduced render (tab renders (λ ch. ch))) (reduced capture (flagged 0 converged)) same
+    let same = count-kept s (oneMore (s .«blocks_since_reset»)) kept in
+    cond-has AllInRange (eqb (length (flagged 0 converged)) 0 || ltb (counted s .«blocks_since_reset») (s .«startup_phase_length_blocks»))
+    (λ e. same)
+    (λ e. learnt-kept (counted s) (reduced render (tab renders (λ ch. ch))) (reduced capture (flagged 0 converged)) same)
 
 after-kept : (s : ErlEstimator) (c : Call) → AllInRange s → AllInRange (after s c)
 unfolding after afterReset updateAnswer
-after-kept s (update captures renders converged render capture) kept = go (eqb (updateRefusal captures renders converged render capture) accepted)
-  where
-    go : (t : Bool) → AllInRange (cond t (updated s renders converged render capture) s)
-    go true = updated-kept s renders converged render capture kept
-    go false = kept
+after-kept s (update captures renders converged render capture) kept =
+    cond-has AllInRange (eqb (updateRefusal captures renders converged render capture) accepted)
+    (λ e. updated-kept s renders converged render capture kept)
+    (λ e. kept)
 after-kept s reset kept = count-kept s 0 kept
 
 pub figures-in-range : (startup : ℕ) → FiguresInRange (started startup)
