@@ -11,7 +11,7 @@ use Rattle.aec3_common.specs.Refusal.{accepted}
 use Rattle.aec3_common.specs.Cases.{ReadBack, Log2ReadBack}
 
 -- where the case with the value and the refusal are read back, every case is
-module _ {X A : Type 0} (good : X → A) (refused : ℕ → A) (number : A → ℕ) (values : A → List ℕ) (shown : X → ℕ)
+module _ {X A Y : Type 0} (good : X → A) (refused : ℕ → A) (number : A → ℕ) (values : A → List Y) (shown : X → Y)
     (good-number : (x : X) → number (good x) ≡ accepted) (refused-number : (n : ℕ) → number (refused n) ≡ n)
     (good-value : (x : X) → values (good x) ≡ shown x ∷ []) (refused-value : (n : ℕ) → values (refused n) ≡ []) where
   abbrev made : ℕ → X → A

@@ -9,7 +9,7 @@ use Rattle.aec3_common.specs.Log2.{log2Case, log2Number, log2Bits}
 use Rattle.aec3_common.specs.Refusal.{accepted}
 
 -- each case is read back as it was made: the number, and where that is 0 the value, as it is shown
-pub record ReadBack {X A : Type 0} (made : ℕ → X → A) (number : A → ℕ) (values : A → List ℕ) (shown : X → ℕ) : Type 0 where
+pub record ReadBack {X A Y : Type 0} (made : ℕ → X → A) (number : A → ℕ) (values : A → List Y) (shown : X → Y) : Type 0 where
   pub refusal : (n : ℕ) (x : X) → number (made n x) ≡ n
   pub value : (n : ℕ) (x : X) → values (made n x) ≡ cond (eqb n accepted) (shown x ∷ []) []
 

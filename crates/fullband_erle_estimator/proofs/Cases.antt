@@ -1,18 +1,19 @@
--- The claim about cases, case by case.
+-- The claim about cases.
 use mathlib.Core.Path.{refl}
 use mathlib.Core.Bool.{Bool, true, false}
-use Prim.Native.Nat.{ℕ, zero, suc}
-use lib.Dec.{eqb·suc-zero}
 use lib.Ieee.{Float}
-use Rattle.fullband_erle_estimator.specs.Cases.{FigureReadBack, OptionalReadBack, CasesReadBack}
-
-figure-read-back : (number : ℕ) (figure : Float) → FigureReadBack number figure
-figure-read-back zero figure = record { refusal = refl; values = refl }
-figure-read-back (suc n) figure = record { refusal = rw (eqb·suc-zero n); values = rw (eqb·suc-zero n) }
+use Rattle.aec3_common.proofs.Cases.{cases-read-back as each-read-back}
+use Rattle.fullband_erle_estimator.specs.declared.FullBandFigure.the-variants.{Value, Refused}
+use Rattle.fullband_erle_estimator.specs.FullBand.{figureNumber, figureValues}
+use Rattle.fullband_erle_estimator.specs.Cases.{OptionalReadBack, CasesReadBack}
 
 optional-read-back : (present : Bool) (x : Float) → OptionalReadBack present x
 optional-read-back true x = record { refusal = refl; there = refl; values = refl }
 optional-read-back false x = record { refusal = refl; there = refl; values = refl }
 
 pub cases-read-back : CasesReadBack
-cases-read-back = record { figure = figure-read-back; optional = optional-read-back }
+cases-read-back =
+    record {
+      figure = each-read-back Value Refused figureNumber figureValues (λ figure. figure) (λ x. refl) (λ n. refl) (λ x. refl) (λ n. refl);
+      optional = optional-read-back;
+    }
