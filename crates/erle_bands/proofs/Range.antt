@@ -18,7 +18,7 @@ use Rattle.aec3_common.proofs.Choices.{cond-has}
 use Rattle.aec3_common.proofs.Fitting.{Between, level, clamped-between, times-at-most}
 use Rattle.aec3_common.proofs.Numbers.{number, UpTo, Value, Whole, no-sum, add-up-to, whole-multiple, ratio-plus, moved-number}
 use Rattle.aec3_common.proofs.Rounding.{Signed}
-use Rattle.erle_bands.specs.Band.{shareUp, shareDown, decayFactor, share, streamMoved, Sums, sumWith, added, hasRatio, ratio, Streams, streamsLearnt, Onset, waitsLearnt, holdLearnt, onsetLearnt, holdLess, decayed, compensatedBeside, oneBlockLess}
+use Rattle.erle_bands.specs.Band.{shareUp, shareDown, decayFactor, share, streamMoved, Sums, sumWith, added, hasRatio, ratio, Streams, streamsLearnt, Onset, holdLearnt, onsetLearnt, holdLess, decayed, compensatedBeside, oneBlockLess}
 
 -- ---- a minimum and a maximum
 

@@ -13,7 +13,6 @@ use lib.Ieee.Fits.{and-l, and-r}
 use lib.Ieee.Positive.{positive, le-trans-positive, mul-mono}
 use Rattle.aec3_common.specs.Binary32.{one32, larger}
 use Rattle.aec3_common.specs.Settings.{greatestErle}
-use Rattle.aec3_common.proofs.Choices.{cond-has}
 use Rattle.aec3_common.proofs.Fitting.{Between, level}
 use Rattle.aec3_common.proofs.Rounding.{failed, at-most-if-not-above}
 use Rattle.erle_bands.specs.Band.{decayFactor, Onset, holdLess, decayed, compensatedBeside, waitsBeside, oneBlockLess}

@@ -25,14 +25,14 @@ module _ (s : SubbandSettings) (limits : AllInOrder s) (c : SubbandChannel) (kep
     quiet-streams : streamsAt (channelAfter s b c) k ≡ streamsAt c k
     unfolding channelAfter streamsAfter
     quiet-streams =
-        streams-from (pointsAfter s b c) (sumsAfter s b c) (λ j. streamsAfter s b c (shownBand j)) (compensatedShown (onsetAfter s b c)) k h
+        streams-from (pointsAfter s b c) (sumsAfter s b c) _ _ k h
         ∙ rw off (sym (kept .copied k h .streams))
 
     -- and lets the holds of bands 1 to 63 fall
     quiet-onset : innerBand k ≡ true → onsetAt (channelAfter s b c) k ≡ oneBlockLess (s .min) (onsetAt c k)
     unfolding channelAfter compensatedShown onsetAfter
     quiet-onset inner =
-        onset-from (pointsAfter s b c) (sumsAfter s b c) (λ j. streamsAfter s b c (shownBand j)) (compensatedShown (onsetAfter s b c)) k h
+        onset-from (pointsAfter s b c) (sumsAfter s b c) _ _ k h
         ∙ rw (inner-shown k inner, on, inner, off)
 
   -- one block less to go

@@ -1,7 +1,7 @@
 -- The claim: the range over any list of calls, and the rest after 500 updates of an unconverged channel.
 use mathlib.Core.Path.{_≡_, refl, sym, ap, _∙_, subst}
 use mathlib.Core.Bool.{Bool, true, false, cond, false≢true, true≢false}
-use mathlib.Core.List.{List, [], _∷_, _++_}
+use mathlib.Core.List.{List, [], _∷_}
 use Prim.Native.Nat.{ℕ, zero, suc, _<_}
 use borrow.Author.Tests.{eqb-true, not-true}
 use lib.Dec.{eqb}

@@ -3,7 +3,7 @@
 use mathlib.Core.Path.{_≡_, refl, sym, subst}
 use mathlib.Core.Bool.{Bool, true, false, cond}
 use mathlib.Core.List.{List}
-use Prim.Native.Nat.{ℕ, suc, _+_, _*_, _^_, _≤_, _<_}
+use Prim.Native.Nat.{ℕ, suc, _*_, _^_, _≤_, _<_}
 use native.Mathlib.Nat.{le-trans, mul-le-mul-right}
 use native.Mathlib.Omega.{arith}
 use borrow.Author.Tests.{eqb-false, le-leb}
@@ -12,7 +12,7 @@ use lib.Ieee.{Float, nan}
 use lib.ListN.{length, getD}
 use Rattle.aec3_common.specs.Binary32.{greatestValue, greatestSum, within, valuesOk, sumsOk}
 use Rattle.aec3_common.specs.Refusal.{accepted}
-use Rattle.aec3_common.specs.Spectra.{part, shownBand}
+use Rattle.aec3_common.specs.Spectra.{part}
 use Rattle.aec3_common.proofs.Bands.{part-length, part-every}
 use Rattle.aec3_common.proofs.Calls.{UpdateOk}
 use Rattle.aec3_common.proofs.Every.{every-at, every-by, every-first}
@@ -23,7 +23,7 @@ use Rattle.erle_bands.proofs.Range.{SumsUpTo, added-up-to}
 use Rattle.subband_erle_estimator.specs.declared.settings.SubbandSettings.{SubbandSettings}
 use Rattle.subband_erle_estimator.specs.declared.channel.SubbandChannel.{SubbandChannel}
 use Rattle.subband_erle_estimator.specs.declared.SubbandErleEstimator.{SubbandErleEstimator}
-use Rattle.subband_erle_estimator.specs.Channel.{sumsAt, channelFrom, compensatedShown, fresh, Block, allPoints, pointsWith, pointsAfter, sumsAfter, streamsAfter, onsetAfter, channelAfter}
+use Rattle.subband_erle_estimator.specs.Channel.{sumsAt, channelFrom, fresh, Block, allPoints, pointsWith, pointsAfter, sumsAfter, channelAfter}
 use Rattle.subband_erle_estimator.specs.Subband.{settingsRefusal, channelOk, stateOk, started, noChannel, channelAt, blockOf, updated}
 use Rattle.subband_erle_estimator.proofs.Judged.{settings-few}
 use Rattle.subband_erle_estimator.proofs.Parts.{sums-from}
@@ -88,9 +88,7 @@ module _ (g : SubbandSettings) (b : Block) (c : SubbandChannel) (ok : BlockOk b)
 
   pub after-sums : ChannelSums (channelAfter g b c)
   unfolding channelAfter
-  after-sums =
-      sums-of (pointsAfter g b c) (sumsAfter g b c) (λ k. streamsAfter g b c (shownBand k)) (compensatedShown (onsetAfter g b c))
-      (points-stay-few (b .converged) (c .«num_points») (kept .few)) sums-after
+  after-sums = sums-of (pointsAfter g b c) (sumsAfter g b c) _ _ (points-stay-few (b .converged) (c .«num_points») (kept .few)) sums-after
 
 -- number 20 lets the sums of up to six points pass
 sums-ok : (n : ℕ) (xs : List Float) → n ≤ 6 → length xs ≡ 65 → ((k : ℕ) → k < 65 → UpTo (n * 2 ^ 100) (getD xs k nan)) → sumsOk xs ≡ true

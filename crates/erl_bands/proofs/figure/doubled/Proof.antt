@@ -1,5 +1,4 @@
 use borrow.Author.Needs.{needs}
-use mathlib.Core.Path.{_∙_}
 use mir.Facts.{toZ-ofZ}
 use Rattle.erl_bands.specs.Figure.{doubled}
 use Rattle.erl_bands.proofs.figure.doubled.Statement.{statement}
