@@ -12,7 +12,7 @@ use Rattle.aec3_common.specs.Lists.{tab}
 use Rattle.aec3_common.specs.Settings.{headroomBlocks}
 use Rattle.aec3_common.specs.Spectra.{part, sum}
 use Rattle.aec3_common.proofs.Choices.{cond-by, cond-same}
-use Rattle.aec3_common.proofs.Tables.{Stored, length-tab, getD-tab-first, tab-is, tab-same, stored-none, stored-more, stored-firsts}
+use Rattle.aec3_common.proofs.Tables.{Stored, getD-tab-first, tab-is, tab-same, stored-none, stored-more, stored-firsts}
 use Rattle.section_echoes.specs.Steps.{allActive}
 use Rattle.correction_factors.specs.Factors.{subbandSums}
 use Rattle.subband_erle_estimator.specs.declared.settings.SubbandSettings.{SubbandSettings}
@@ -151,11 +151,6 @@ module _ (s : ErleEstimator) (converged : List Bool) (x y e : List Float) where
       (cond-by (loudFor converged x && getD converged ch false) (fullbandOf ch) _ _
       (λ on. sym (heard-channel (fullbandPart s) converged x y e ch c h on held))
       (λ off. sym (FullBand·quiet-channel (fullbandPart s) converged x y e ch c h off held)))
-
-  -- the streams of a subband record have 65 bands
-  pub streams-long : (ch : ℕ) → (length (subbandOf ch .erle) ≡ 65) × (length (subbandOf ch .«erle_onset_compensated») ≡ 65)
-  unfolding Subband·channelOf Subband·channelAfter
-  streams-long ch = (length-tab 65 _, length-tab 65 _)
 
 -- ---- the loop is over
 
