@@ -152,10 +152,6 @@ module _ (s : ErleEstimator) (converged : List Bool) (x y e : List Float) where
       (λ on. sym (heard-channel (fullbandPart s) converged x y e ch c h on held))
       (λ off. sym (FullBand·quiet-channel (fullbandPart s) converged x y e ch c h off held)))
 
-  -- the streams of a subband record have 65 bands
-  pub streams-long : (ch : ℕ) → (length (subbandOf ch .erle) ≡ 65) × (length (subbandOf ch .«erle_onset_compensated») ≡ 65)
-  streams-long ch = let long = channel-long (subbandPart s) converged x y e ch in (long .plain, long .compensated)
-
 -- ---- the loop is over
 
 module _ (s : ErleEstimator) (u : Update) (few : s .settings .«num_capture_channels» ≤ 4) where

@@ -12,7 +12,6 @@ use Rattle.aec3_common.specs.Spectra.{part}
 use Rattle.aec3_common.proofs.Bands.{part-length, part-every}
 use Rattle.aec3_common.proofs.Tables.{length-mapped, stored-not-yet}
 use Rattle.section_echoes.specs.Steps.{allActive}
-use Rattle.subband_erle_estimator.specs.declared.channel.SubbandChannel.{SubbandChannel}
 use Rattle.subband_erle_estimator.proofs.Judged.{points-few}
 use Rattle.signal_dependent_erle_estimator.proofs.Judged.{settings-passed, one-section, eight-sections, headroom-inside}
 use Rattle.signal_dependent_erle_estimator.proofs.Updates.{active-at, active-within}
@@ -22,7 +21,7 @@ use Rattle.erle_estimator.specs.declared.ErleEstimator.{ErleEstimator}
 use Rattle.erle_estimator.specs.Parts.{signalSettings, fullbandSettings, subbandPart, signalPart, fullbandPart, withRecords}
 use Rattle.erle_estimator.specs.Erle.{Update, stateOk, updateRefusal, counted, afterAccepted, updateAnswer}
 use Rattle.erle_estimator.proofs.Judged.{Walked, walked-none, walked-few, walked-more, walked-all, Accepted, accepted-call, judged-is, subband-passed, signal-passed, fullband-passed}
-use Rattle.erle_estimator.proofs.Updates.{subbandOf, Updating, updating-none, updating-more, updating-all, streams-long, subband-is, signal-is, fullband-is}
+use Rattle.erle_estimator.proofs.Updates.{subbandOf, Updating, updating-none, updating-more, updating-all, subband-is, signal-is, fullband-is}
 use Rattle.erle_estimator.proofs.ErleEstimator.update.Statement.{statement}
 use Rattle.erle_estimator.proofs.ErleEstimator.update.Tie as tie
 
@@ -198,12 +197,7 @@ moved-is c =
 long :
     (c : tie.After-subband-channel Inv-loop μ-loop Inv-loop2 μ-loop2)
     → (length (c .subband-channel .result .erle) ≡ 65) × (length (c .subband-channel .result .«erle_onset_compensated») ≡ 65)
-long c =
-    let u = call (c .before .before .before .before .before .before .before .before .before .before .before .before .before .before .before .before .before .before .before .before .before .before .before .before .before .before .before .before .before .before .before .before .before) in
-    let both = streams-long (from c) (u .converged) (u .render) (u .capture) (u .residual) (c .before .before .before .before .before .before .loop2 .ch) in (
-      ap (λ (r : SubbandChannel). length (r .erle)) (moved-is c) ∙ both .0,
-      ap (λ (r : SubbandChannel). length (r .«erle_onset_compensated»)) (moved-is c) ∙ both .1,
-    )
+long c = (search (needs, length-mapped), search (needs, length-mapped))
 
 signal-channel-requires : tie.Need-signal-channel-requires Inv-loop μ-loop Inv-loop2 μ-loop2
 signal-channel-requires c κs =
