@@ -20,7 +20,7 @@ use Rattle.subband_erle_estimator.specs.declared.channel.SubbandChannel.{Subban
 use Rattle.subband_erle_estimator.specs.declared.SubbandErleEstimator.{SubbandErleEstimator}
 use Rattle.subband_erle_estimator.specs.Channel.{channelAfter as Subband·channelAfter}
 use Rattle.subband_erle_estimator.specs.Subband.{noChannel as Subband·noChannel, channelAt as Subband·channelAt, updated as Subband·updated}
-use Rattle.subband_erle_estimator.proofs.Updates.{channelOf as Subband·channelOf, channel-long}
+use Rattle.subband_erle_estimator.proofs.Updates.{channelOf as Subband·channelOf}
 use Rattle.signal_dependent_erle_estimator.specs.declared.settings.SignalDependentSettings.{SignalDependentSettings}
 use Rattle.signal_dependent_erle_estimator.specs.declared.channel.SignalDependentChannel.{SignalDependentChannel}
 use Rattle.signal_dependent_erle_estimator.specs.Channel.{Lent, channelAfter as SignalDependent·channelAfter}

@@ -13,7 +13,6 @@ use Rattle.subband_erle_estimator.specs.declared.settings.SubbandSetting
 use Rattle.subband_erle_estimator.specs.declared.SubbandErleEstimator.{SubbandErleEstimator}
 use Rattle.subband_erle_estimator.specs.Channel.{unconvergedBlock, sumsAfter, streamsAfter, onsetAfter, channelAfter}
 use Rattle.subband_erle_estimator.specs.Subband.{stateOk, noChannel, channelAt, blockOf, updated}
-use Rattle.subband_erle_estimator.proofs.Parts.{Long, long-from}
 
 -- where a channel stands unconverged its powers are not looked at
 pub quiet-any :
@@ -26,11 +25,6 @@ quiet-any g c x y e = refl
 module _ (s : SubbandErleEstimator) (converged : List Bool) (x y e : List Float) where
   unfoldable pub channelOf : ℕ → SubbandChannel
   channelOf ch = channelAfter (s .settings) (blockOf converged x y e ch) (channelAt s ch)
-
-  -- its arrays have 65 entries each
-  pub channel-long : (ch : ℕ) → Long (channelOf ch)
-  unfolding channelOf channelAfter
-  channel-long ch = long-from _ _ _ _
 
   pub converged-channel :
       (ch : ℕ) (c : SubbandChannel) → getD converged ch false ≡ true → c ≡ channelAt s ch
