@@ -48,7 +48,7 @@ moved old new share = add binary32 old (mul binary32 share (sub binary32 new old
 abbrev pub numberFrom : Float → Float → Float → Bool
 numberFrom lo hi x = le lo x && le x hi
 
--- a value in 0 to hi: negative zero passes
+-- a number from 0 to hi: negative zero passes, a NaN does not
 abbrev pub within : Float → Float → Bool
 within hi x = numberFrom zero32 hi x
 

@@ -24,7 +24,7 @@ innerBand k = ltb 0 k && ltb k 64
 abbrev pub shownBand : ℕ → ℕ
 shownBand k = cond (eqb k 0) 1 (cond (eqb k 64) 63 k)
 
--- a spectrum whose bands hold the figures that they show
+-- a spectrum with bands 0 and 64 overwritten by 1 and 63
 unfoldable pub endsCopied : List Float → List Float
 endsCopied s = tab (length s) (λ k. getD s (shownBand k) nan)
 

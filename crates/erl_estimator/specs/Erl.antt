@@ -83,8 +83,8 @@ learntFrom s render capture =
       «blocks_since_reset» = s .«blocks_since_reset»;
     }
 
--- An accepted update counts one block. Without a converged channel, or below the startup count, nothing else happens. Otherwise
--- converged captures and all renders are reduced and every figure goes one block on.
+-- An accepted update counts one block first. Without a converged channel, or if the count is then below the startup count, nothing else
+-- happens. Otherwise converged captures and all renders are reduced and every figure goes one block on.
 unfoldable pub updated : ErlEstimator → ℕ → List Bool → List Float → List Float → ErlEstimator
 updated s renders converged render capture =
     let channels = flagged 0 converged in

@@ -29,7 +29,7 @@ run s calls = runBy after s calls
 abbrev pub inRange : Float → Bool
 inRange x = numberFrom minErl maxErl x
 
--- the ERL of each of the 65 bands and the time-domain ERL
+-- the ERL of each of the 65 bands and the time-domain ERL are in range
 pub record AllInRange (s : ErlEstimator) : Type 0 where
   pub bands : (k : ℕ) → k < 65 → inRange (getD (s .erl) k nan) ≡ true
   pub time : inRange (s .«erl_time_domain») ≡ true

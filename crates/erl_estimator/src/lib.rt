@@ -38,7 +38,7 @@ pub struct ErlUpdate {
 }
 
 impl ErlEstimator {
-    // A start. No call to it is turned away.
+    // A start. No call to it is turned away. After any later calls every ERL is a number from 0.01 to 1,000.
     pub fn new(startup_phase_length_blocks: u32) -> ErlEstimator
         ensures { λ r. ⌜ r ≡ started «startup_phase_length_blocks» ⌝ }
         ensures { λ r. ⌜ FiguresInRange r ⌝ }

@@ -7,13 +7,13 @@ use lib.Ieee.{Float}
 use Rattle.aec3_common.specs.declared.settings.ErleSettings.{ErleSettings}
 use Rattle.aec3_common.specs.Binary32.{zero32}
 use Rattle.aec3_common.specs.Counts.{oneMore}
-use Rattle.aec3_common.specs.Refusal.{unless, firstOf, accepted, badLength, badValue, badState, otherChannelCount}
-use Rattle.aec3_common.specs.Settings.{headroomBlocks, settingsRefusal}
+use Rattle.aec3_common.specs.Refusal.{unless, accepted, badState}
+use Rattle.aec3_common.specs.Settings.{settingsRefusal}
 use Rattle.aec3_common.specs.Streams.{erleOf}
 use Rattle.subband_erle_estimator.specs.declared.channel.SubbandChannel.{SubbandChannel}
 use Rattle.subband_erle_estimator.specs.Subband.{channelAt as Subband·channelAt, stateOk as Subband·stateOk, started as Subband·started, updated as Subband·updated}
 use Rattle.signal_dependent_erle_estimator.specs.declared.channel.SignalDependentChannel.{SignalDependentChannel}
-use Rattle.signal_dependent_erle_estimator.specs.SignalDependent.{stateOk as SignalDependent·stateOk, ringRefusal, boundariesOf, started as SignalDependent·started, afterAccepted as SignalDependent·afterAccepted}
+use Rattle.signal_dependent_erle_estimator.specs.SignalDependent.{stateOk as SignalDependent·stateOk, refusalBy, boundariesOf, started as SignalDependent·started, afterAccepted as SignalDependent·afterAccepted}
 use Rattle.fullband_channel.specs.declared.instantaneous.OptionalNumber.the-variants.{Absent}
 use Rattle.fullband_erle_estimator.specs.declared.FullBandFigure.{FullBandFigure}
 use Rattle.fullband_erle_estimator.specs.declared.QualityAnswer.{QualityAnswer}
@@ -36,17 +36,10 @@ stateOk s = Subband·stateOk (subbandPart s) && SignalDependent·stateOk (signal
 unfoldable pub stateRefusal : ErleEstimator → ℕ
 stateRefusal s = unless (stateOk s) badState accepted
 
--- The first of 20, 21, 2, 4, 9, 5 and 6, or 0. 2 is of the ring's render channels, since 21 has judged the capture channels; 1 and 3
--- are in 20; 8 does not arise, as 4 judges the only offset.
+-- the first of 20, 21, 2, 4, 9, 5 and 6, or 0
 unfoldable pub updateRefusal : ErleEstimator → Update → ℕ
 updateRefusal s u =
-    let g = s .settings in
-    unless (stateOk s) badState
-    (unless (eqb (u .channels) (g .«num_capture_channels»)) otherChannelCount
-    (firstOf (ringRefusal (headroomBlocks (g .«delay_headroom_samples»)) (u .ring))
-    (unless (lentLengthsOk (g .«filter_length_blocks») u) badLength
-    (unless (lentValuesOk u) badValue
-    accepted))))
+    refusalBy (stateOk s) (signalSettings (s .settings)) u (lentLengthsOk (s .settings .«filter_length_blocks») u) (lentValuesOk u)
 
 -- ---- start, reset, update
 
@@ -105,14 +98,14 @@ resetAnswer s delayChange =
 unfoldable pub counted : ErleEstimator → ErleEstimator
 counted s = withRecords s (oneMore (s .«blocks_since_reset»)) (s .subband) (s .«signal_dependent») (s .fullband)
 
--- The three parts in the Rust's order: the subband part; the signal-dependent part, lent each channel's subband streams after this
--- update, which stays as it is with one section; the fullband part. (With onset detection off the Rust lends the plain stream twice; the
+-- The three parts in the Rust's order: the subband part; the signal-dependent part, which with one section stays as it is and otherwise
+-- is lent each channel's subband streams after this update; the fullband part. (With onset detection off the Rust lends the plain stream twice; the
 -- part then reads no compensated one.) The count is not touched here.
 unfoldable pub updated : ErleEstimator → Update → ErleEstimator
 updated s u =
     let subband = Subband·updated (subbandPart s) (u .converged) (u .render) (u .capture) (u .residual) in
-    let lent = Subband·channelAt subband in
-    let signal = SignalDependent·afterAccepted (signalPart s) u (λ ch. lent ch .erle) (λ ch. lent ch .«erle_onset_compensated») in
+    let own = Subband·channelAt subband in
+    let signal = SignalDependent·afterAccepted (signalPart s) u (λ ch. own ch .erle) (λ ch. own ch .«erle_onset_compensated») in
     let fullband = FullBand·updated (fullbandPart s) (u .converged) (u .render) (u .capture) (u .residual) in
     withRecords s (s .«blocks_since_reset») (subband .channels) (signal .channels) (fullband .channels)
 

@@ -95,7 +95,7 @@ fn blocks_kept(blocks: u32, delay_change: bool) -> u32
 
 impl ErleEstimator {
     // A start. 1, 2 and 3 are turned away, with a state that update, reset and the fullband readers turn away. After an accepted start
-    // none does so under 20.
+    // no later call is turned away under 20.
     pub fn new(startup_phase_length_blocks: u32, settings: ErleSettings) -> ErleAnswer
         ensures { λ r. ⌜ r ≡ startAnswer «startup_phase_length_blocks» settings ⌝ }
         ensures { λ r. ⌜ (r .refused ≡ accepted → NeverBadState (r .state)) ⌝ }

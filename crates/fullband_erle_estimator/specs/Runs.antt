@@ -45,6 +45,6 @@ pub record NotBelowMinimum (settings : FullBandSettings) (s : FullBandErleEstima
   pub channels : (ch : ℕ) → ch < settings .«num_capture_channels» → le (minLog2 settings) (figureOf s ch) ≡ true
   pub least : le (minLog2 settings) (fullbandLog2 s) ≡ true
 
--- Claim, which it promises too: in the same runs no figure is below log2 of (the minimum plus 0.001), and none is a NaN.
+-- Claim, which an accepted start promises too: in such runs no figure is below log2 of (the minimum plus 0.001), and none is a NaN.
 unfoldable pub FiguresNotBelowMinimum : FullBandSettings → FullBandErleEstimator → Type 0
 FiguresNotBelowMinimum settings start = (calls : List Call) → NotBelowMinimum settings (run start calls)

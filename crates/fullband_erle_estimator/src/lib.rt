@@ -93,8 +93,8 @@ pub fn is_loud(converged_filters: &[bool], x2: &[f32]) -> bool
 }
 
 impl FullBandErleEstimator {
-    // A start. 1 and 2 are turned away, with a state that every later call turns away. After an accepted start none does so under 20, and
-    // no figure falls below log2 of (the minimum plus 0.001).
+    // A start. 1 and 2 are turned away, with a state that every later call turns away. After an accepted start no later call is turned
+    // away under 20, and every log2 figure stays a number not below log2 of (the minimum plus 0.001).
     pub fn new(settings: FullBandSettings) -> FullBandAnswer
         ensures { λ r. ⌜ r ≡ startAnswer settings ⌝ }
         ensures { λ r. ⌜ (r .refused ≡ accepted → NeverBadState (r .state)) ⌝ }

@@ -24,10 +24,10 @@ use Rattle.signal_dependent_erle_estimator.specs.declared.SignalDependen
 use Rattle.signal_dependent_erle_estimator.specs.declared.SignalDependentAnswer.{SignalDependentAnswer}
 use Rattle.signal_dependent_erle_estimator.specs.Channel.{Lent, freshChannel, channelAfter}
 
--- What an update is lent, here and of the whole estimator: the call's channel count; the ring and its spectra, which make the echoes;
--- the number of response blocks of each channel and the responses, packed; the render power, 65 numbers for all channels, apart from
--- the ring's; capture and residual power, 65 numbers for each channel, packed; the flags. Here the subband estimator's plain and
--- compensated streams come beside it.
+-- What an update is lent, here and in the whole estimator: the call's channel count; the ring and its spectra, which make the echoes;
+-- the number of response blocks of each channel and the responses, packed; the render power that is learnt from, one spectrum of 65
+-- numbers for all channels together, not the ring's; capture and residual power, 65 numbers for each channel, packed; the flags. Here the
+-- subband estimator's plain and compensated streams come beside it.
 pub record Update : Type 0 where
   pub channels : ℕ
   pub ring : RenderRing
@@ -110,16 +110,24 @@ lentValuesOk u = valuesInRange (u .render) (u .capture) (u .residual) && valuesO
 unfoldable pub allValuesOk : Update → List Float → List Float → Bool
 allValuesOk u average averageCompensated = lentValuesOk u && valuesOk average && valuesOk averageCompensated
 
--- The first of 20, 21, 2, 4, 9, 5 and 6, or 0. The state is told by whether number 20 lets it pass, and by its settings. 8 does
--- not arise: the headroom blocks are the only offset, and 4 has judged them against the slots.
-unfoldable pub refusalOf : Bool → SignalDependentSettings → Update → List Float → List Float → ℕ
-refusalOf passes20 g u average averageCompensated =
+-- The first of 20, 21, 2, 4, 9, 5 and 6, or 0, where it is known whether 20, 5 and 6 let the call pass; here and in the whole estimator.
+-- 2 is of the ring's render channels, since 21 has judged the capture channels; 1 and 3 are in 20; 8 does not arise: the headroom blocks
+-- are the only offset, and 4 has judged them against the slots.
+abbrev pub refusalBy : Bool → SignalDependentSettings → Update → Bool → Bool → ℕ
+refusalBy passes20 g u lengthsOk valuesOk =
     unless passes20 badState
     (unless (eqb (u .channels) (g .«num_capture_channels»)) otherChannelCount
     (firstOf (ringRefusal (headroomBlocks (g .«delay_headroom_samples»)) (u .ring))
-    (unless (allLengthsOk (g .«filter_length_blocks») u average averageCompensated) badLength
-    (unless (allValuesOk u average averageCompensated) badValue
+    (unless lengthsOk badLength
+    (unless valuesOk badValue
     accepted))))
+
+-- the state is told by whether number 20 lets it pass, and by its settings
+unfoldable pub refusalOf : Bool → SignalDependentSettings → Update → List Float → List Float → ℕ
+refusalOf passes20 g u average averageCompensated =
+    refusalBy passes20 g u
+    (allLengthsOk (g .«filter_length_blocks») u average averageCompensated)
+    (allValuesOk u average averageCompensated)
 
 unfoldable pub updateRefusal : SignalDependentErleEstimator → Update → List Float → List Float → ℕ
 updateRefusal s u average averageCompensated = refusalOf (stateOk s) (s .settings) u average averageCompensated

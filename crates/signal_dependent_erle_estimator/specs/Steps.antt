@@ -13,7 +13,7 @@ use Rattle.section_echoes.specs.Steps.{RingFits}
 use Rattle.signal_dependent_erle_estimator.specs.declared.SignalDependentErleEstimator.{SignalDependentErleEstimator}
 use Rattle.signal_dependent_erle_estimator.specs.SignalDependent.{Update, settingsRefusal}
 
--- an accepted update: a state and a ring that pass, and all that is lent as long as the channels and the counts ask
+-- an accepted update: settings and a ring that pass, and all that is lent as long as the channels and the counts ask
 pub record Passed (s : SignalDependentErleEstimator) (u : Update) (average averageCompensated : List Float) : Type 0 where
   pub state : settingsRefusal (s .settings) ≡ accepted
   pub count : u .channels ≡ s .settings .«num_capture_channels»

@@ -77,7 +77,8 @@ fn started(settings: SignalDependentSettings) -> SignalDependentErleEstimator
 }
 
 impl SignalDependentErleEstimator {
-    // A start. 1, 2 and 3 are turned away, with a state that every later call turns away. After an accepted start none does so under 20.
+    // A start. 1, 2 and 3 are turned away, with a state that every later call turns away. After an accepted start no later
+    // call is turned away under 20.
     pub fn new(settings: SignalDependentSettings) -> SignalDependentAnswer
         ensures { λ r. ⌜ r ≡ startAnswer settings ⌝ }
         ensures { λ r. ⌜ (r .refused ≡ accepted → NeverBadState (r .state)) ⌝ }

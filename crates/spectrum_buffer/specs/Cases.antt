@@ -1,4 +1,4 @@
--- A place is made of a number and a place, and can be read back.
+-- The answer `Place` is made of a refusal number and a place, and can be read back.
 use Rattle.aec3_common.specs.Cases.{ReadBack}
 use Rattle.spectrum_buffer.specs.Ring.{placeCase, placeNumber, placeValue}
 
