@@ -1,17 +1,17 @@
 -- Parts of spectra, and bands that copy others.
-use mathlib.Core.Path.{_≡_, refl, ap, _∙_}
-use mathlib.Core.Bool.{Bool, true, false, cond}
+use mathlib.Core.Path.{_≡_, refl, sym, ap, _∙_}
+use mathlib.Core.Bool.{Bool, true, false, cond, _&&_}
 use mathlib.Core.List.{List}
-use Prim.Native.Nat.{ℕ, _+_, _-_, _*_, _≤_, _<_}
+use Prim.Native.Nat.{ℕ, _+_, _-_, _*_, _/_, _%_, _≤_, _<_}
 use native.Mathlib.Omega.{arith}
-use borrow.Author.Tests.{eqb-true, eqb-false, lt-ltb, ltb-true}
-use lib.Dec.{ltb, eqb}
+use borrow.Author.Tests.{eqb-true, eqb-false, eq-eqb, leb-true, leb-false, lt-ltb, ltb-true, ltb-false}
+use lib.Dec.{leb, ltb, eqb}
 use lib.Ieee.{Float, nan}
-use lib.ListN.{length, getD, take, drop, set, length-set, length-drop}
-use lib.Seq.{getD-set-same, getD-set-other, length-take-le}
+use lib.ListN.{length, getD, take, drop, set, length-set, length-drop, drop-of-length-le}
+use lib.Seq.{getD-set-same, getD-set-other, length-take-le, take-all}
 use Rattle.aec3_common.specs.Lists.{tab, every}
 use Rattle.aec3_common.specs.Spectra.{part, innerBand, shownBand, endsCopied}
-use Rattle.aec3_common.proofs.Choices.{and-left, and-right}
+use Rattle.aec3_common.proofs.Choices.{and-left, and-right, cond-has}
 use Rattle.aec3_common.proofs.Every.{every-take, every-drop}
 use Rattle.aec3_common.proofs.Tables.{tab-is, tab-same}
 
@@ -21,6 +21,68 @@ unfolding part
 lent-part spectra ch =
     let size : ch * 65 + 65 - ch * 65 ≡ 65 = omega arith in
     ap (λ (n : ℕ). take n (drop (ch * 65) spectra)) size
+
+-- the same where both ends go no further than the list
+module _ (spectra : List Float) (ch from to : ℕ)
+    (begins : from ≡ cond (leb (ch * 65) (length spectra)) (ch * 65) (length spectra))
+    (ends : to ≡ cond (ltb (length spectra - from) 65) (length spectra) (from + 65)) where
+  pub begin-within : from ≤ length spectra
+  begin-within = rw begins (cond-has (λ (k : ℕ). k ≤ length spectra) (leb (ch * 65) (length spectra)) (leb-true _ _) (λ e. omega arith))
+
+  pub end-behind : from ≤ to
+  end-behind =
+      rw ends
+      (cond-has (λ (k : ℕ). from ≤ k) (ltb (length spectra - from) 65) (λ e. begin-within) (λ e. omega arith))
+
+  pub end-within : to ≤ length spectra
+  end-within =
+      rw ends
+      (cond-has (λ (k : ℕ). k ≤ length spectra) (ltb (length spectra - from) 65) (λ e. omega arith)
+      (λ e. omega (arith, begin-within, ltb-false (length spectra - from) 65 e)))
+
+  as-long : take (to - from) (drop from spectra) ≡ take 65 (drop from spectra)
+  as-long = go (ltb (length spectra - from) 65) refl
+    where
+      go : (t : Bool) → ltb (length spectra - from) 65 ≡ t → take (to - from) (drop from spectra) ≡ take 65 (drop from spectra)
+      go true e =
+          let last : to ≡ length spectra = rw e at ends in
+          let rest : length (drop from spectra) ≡ length spectra - from = length-drop from spectra in
+          take-all (to - from) (drop from spectra) (omega arith)
+          ∙ sym (take-all 65 (drop from spectra) (omega (arith, ltb-true (length spectra - from) 65 e)))
+      go false e =
+          let last : to ≡ from + 65 = rw e at ends in
+          let size : to - from ≡ 65 = omega arith in
+          ap (λ (k : ℕ). take k (drop from spectra)) size
+
+  pub clamped-part : take (to - from) (drop from spectra) ≡ part spectra ch
+  unfolding part
+  clamped-part = as-long ∙ go (leb (ch * 65) (length spectra)) refl
+    where
+      go : (t : Bool) → leb (ch * 65) (length spectra) ≡ t → take 65 (drop from spectra) ≡ take 65 (drop (ch * 65) spectra)
+      go true e =
+          let first : from ≡ ch * 65 = rw e at begins in
+          ap (λ (k : ℕ). take 65 (drop k spectra)) first
+      go false e =
+          let none : from ≡ length spectra = rw e at begins in
+          ap (take 65)
+          (drop-of-length-le spectra {i = from} (omega arith)
+          ∙ sym (drop-of-length-le spectra {i = ch * 65} (omega (arith, leb-false (ch * 65) (length spectra) e))))
+
+-- so many numbers are n spectra
+pub spectra-counted : (numbers n : ℕ) → (eqb (numbers % 65) 0 && eqb (numbers / 65) n) ≡ eqb numbers (n * 65)
+spectra-counted numbers n = go (eqb numbers (n * 65)) refl
+  where
+    go : (t : Bool) → eqb numbers (n * 65) ≡ t → (eqb (numbers % 65) 0 && eqb (numbers / 65) n) ≡ t
+    go true e =
+        let all : numbers ≡ n * 65 = eqb-true numbers (n * 65) e in
+        simp (eq-eqb (numbers % 65) 0 (omega arith), eq-eqb (numbers / 65) n (omega arith))
+    go false e = by-rest (eqb (numbers % 65) 0) refl (eqb (numbers / 65) n) refl
+      where
+        by-rest : (a : Bool) → eqb (numbers % 65) 0 ≡ a → (b : Bool) → eqb (numbers / 65) n ≡ b → (a && b) ≡ false
+        by-rest true p true q =
+            absurd (eqb-false numbers (n * 65) e (omega (arith, eqb-true (numbers % 65) 0 p, eqb-true (numbers / 65) n q)))
+        by-rest true p false q = refl
+        by-rest false p b q = refl
 
 pub part-length : (spectra : List Float) (ch : ℕ) → ch * 65 + 65 ≤ length spectra → length (part spectra ch) ≡ 65
 unfolding part

@@ -5,20 +5,18 @@ use crate::refusal::BAD_LENGTH;
 use crate::refusal::BAD_STATE;
 use crate::refusal::BAD_VALUE;
 use crate::refusal::OTHER_CHANNEL_COUNT;
+use crate::spectra::are_spectra;
 ghost use mathlib.Core.Path.{_≡_};
-ghost use mathlib.Core.Bool.{true};
-ghost use Prim.Native.Nat.{_≤_};
 ghost use Rattle.aec3_common.specs.Calls.{lengthsOk, valuesInRange, callRefusal};
 
-// Number 5, of what every ERLE estimator is lent, for a count of channels in its range.
+// Number 5, of what every ERLE estimator is lent.
 pub fn lengths_ok(channels: usize, converged: &[bool], x2: &[f32], y2: &[f32], e2: &[f32]) -> bool
-    requires { ⌜ channels ≤ 4 ⌝ }
     ensures { λ r. ⌜ r ≡ lengthsOk channels (now (converged .entry)) (now (x2 .entry)) (now (y2 .entry)) (now (e2 .entry)) ⌝ }
 {
     (converged.len() == channels)
         & (x2.len() == 65)
-        & (y2.len() == channels * 65)
-        & (e2.len() == channels * 65)
+        & are_spectra(y2.len(), channels)
+        & are_spectra(e2.len(), channels)
 }
 
 // Number 6, of the same.
@@ -28,7 +26,7 @@ pub fn all_values_ok(x2: &[f32], y2: &[f32], e2: &[f32]) -> bool
     values_ok(x2) & values_ok(y2) & values_ok(e2)
 }
 
-// The first of 20, 21, 5 and 6, or 0, for a caller that has judged its state; one that passes has at most four channels.
+// The first of 20, 21, 5 and 6, or 0, for a caller that has judged its state.
 pub fn call_refusal(
     state_ok: bool,
     count: usize,
@@ -38,7 +36,6 @@ pub fn call_refusal(
     y2: &[f32],
     e2: &[f32],
 ) -> u32
-    requires { ⌜ («state_ok» ≡ true → count ≤ 4) ⌝ }
     ensures { λ r. ⌜ r ≡ callRefusal «state_ok» count channels (now (converged .entry)) (now (x2 .entry)) (now (y2 .entry)) (now (e2 .entry)) ⌝ }
 {
     if state_ok {

@@ -1,15 +1,9 @@
 use borrow.Author.Needs.{needs}
 use borrow.Author.Tests.{eq-eqb, ne-eqb}
-use native.Mathlib.Omega.{arith}
 use mathlib.Core.Path.{_∙_, sym}
 use Rattle.aec3_common.specs.Calls.{callRefusal}
 use Rattle.aec3_common.proofs.judge.call_refusal.Statement.{statement}
 use Rattle.aec3_common.proofs.judge.call_refusal.Tie as tie
-
-lengths-ok-requires : tie.Need-lengths-ok-requires
-lengths-ok-requires c κs =
-    let few = c .before .before .before .before .before .before .pre (c .before .if1 .taken) in
-    omega (arith, few, c .if2 .taken)
 
 returns : tie.Need-returns
 unfolding callRefusal
@@ -50,4 +44,4 @@ returns-5 c = simp (c .if1 .left)
 
 pub call-refusal-spec : {M : Type 1} → statement M
 call-refusal-spec =
-    tie.close (tie.spec lengths-ok-requires (λ c κs. search needs) returns returns-2 returns-3 returns-4 returns-5)
+    tie.close (tie.spec (λ c κs. search needs) (λ c κs. search needs) returns returns-2 returns-3 returns-4 returns-5)
