@@ -5,7 +5,7 @@ use Rattle.aec3_common.proofs.log2.fast_approx_log2f.Tie as tie
 
 returns : tie.Need-returns
 unfolding log2Answer
-returns c = simp (c .before .if1 .taken, c .log2-of-positive .ensures)
+returns c = simp (c .before .if1 .taken, c .approx-log2 .ensures)
 
 returns-2 : tie.Need-returns-2
 unfolding log2Answer
