@@ -1,9 +1,9 @@
--- What the judging of a record tells, and that log2 is asked of positive numbers alone.
+-- What the judging of a record tells; the claim that log2 is asked of positive numbers alone.
 use mathlib.Core.Path.{_≡_, subst}
 use mathlib.Core.Bool.{true, false}
 use mathlib.Core.List.{List}
 use Prim.Native.Nat.{_+_, _*_, _^_, _≤_}
-use native.Mathlib.Nat.{add-mul}
+use native.Mathlib.Nat.{add-mul, le-of-eq}
 use native.Mathlib.Omega.{arith}
 use borrow.Author.Tests.{ltb-true}
 use lib.Dec.{ltb}
@@ -19,7 +19,7 @@ use Rattle.fullband_channel.specs.declared.instantaneous.ErleInstantaneo
 use Rattle.fullband_channel.specs.declared.channel.FullBandChannel.{FullBandChannel}
 use Rattle.fullband_channel.specs.Instantaneous.{epsilon, allPoints}
 use Rattle.fullband_channel.specs.Channel.{channelOk}
-use Rattle.fullband_channel.specs.Steps.{PositiveRatio}
+use Rattle.fullband_channel.specs.Positive.{PositiveRatio, RatiosArePositive}
 
 -- ---- numbers above zero
 
@@ -28,7 +28,7 @@ unfolding ofBits fits
 epsilon-above plus = plus-above plus epsilon tt tt
 
 -- the ratio of sums that pass
-pub positive-ratio :
+positive-ratio :
     (capture : List Float) (residual : Float) (i : ErleInstantaneous)
     → within greatestSum (i .«y2_accum») ≡ true → length capture ≤ 65 → valuesOk capture ≡ true → PositiveRatio (sum capture) residual i
 positive-ratio capture residual i held few ok some =
@@ -52,5 +52,12 @@ module _ (c : FullBandChannel) (ok : channelOk c ≡ true) where
   pub few-points : c .«instantaneous_erle» .«num_points» ≤ 5
   few-points = omega (arith, ltb-true (c .«instantaneous_erle» .«num_points») 6 (parts .0))
 
-  pub capture-within : within greatestSum (c .«instantaneous_erle» .«y2_accum») ≡ true
+  capture-within : within greatestSum (c .«instantaneous_erle» .«y2_accum») ≡ true
   capture-within = parts .1
+
+-- ---- the claim
+
+pub ratios-are-positive : RatiosArePositive
+unfolding RatiosArePositive
+ratios-are-positive c capture residual ok long values =
+    positive-ratio capture residual (c .«instantaneous_erle») (capture-within c ok) (le-of-eq long) values

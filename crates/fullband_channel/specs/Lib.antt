@@ -1,4 +1,4 @@
 pub mod Instantaneous
 pub mod Channel
 pub mod Constants
-pub mod Steps
+pub mod Positive

@@ -8,13 +8,10 @@ use aec3_common::counts::fallen;
 use aec3_common::larger;
 use aec3_common::moved;
 ghost use mathlib.Core.Path.{_≡_};
-ghost use mathlib.Core.Bool.{true};
 ghost use Prim.Native.Nat.{_≤_};
 ghost use lib.ListN.{length};
-ghost use Rattle.aec3_common.specs.Binary32.{valuesOk};
 ghost use Rattle.aec3_common.specs.Spectra.{sum};
 ghost use Rattle.fullband_channel.specs.Channel.{channelOk, freshChannel, withPoint, oneBlockLess};
-ghost use Rattle.fullband_channel.specs.Steps.{PositiveRatio};
 
 const BLOCKS_TO_HOLD_ERLE: i32 = 100;
 
@@ -71,7 +68,6 @@ impl FullBandChannel {
     // The channel with one more point: the sums of a block's capture and residual power.
     fn with_point(self, min_erle_log2: f32, y2_sum: f32, e2_sum: f32) -> FullBandChannel
         requires { ⌜ self .«instantaneous_erle» .«num_points» ≤ 5 ⌝ }
-        requires { ⌜ PositiveRatio «y2_sum» «e2_sum» (self .«instantaneous_erle») ⌝ }
         ensures { λ r. ⌜ r ≡ withPoint «min_erle_log2» «y2_sum» «e2_sum» self ⌝ }
     {
         let inst = self.instantaneous_erle;
@@ -96,7 +92,7 @@ impl FullBandChannel {
 
     // One update of a channel that accumulates.
     pub fn update(self, min_erle_log2: f32, y2: &[f32], e2: &[f32]) -> FullBandChannel
-        requires { ⌜ (channelOk self ≡ true) × (length (now y2) ≡ 65) × (length (now e2) ≡ 65) × (valuesOk (now y2) ≡ true) ⌝ }
+        requires { ⌜ (self .«instantaneous_erle» .«num_points» ≤ 5) × (length (now y2) ≡ 65) × (length (now e2) ≡ 65) ⌝ }
         ensures { λ r. ⌜ r ≡ oneBlockLess (withPoint «min_erle_log2» (sum (now (y2 .entry))) (sum (now (e2 .entry))) self) ⌝ }
     {
         let sums = power_sums(y2, e2);

@@ -1,12 +1,11 @@
 // One channel's instantaneous ERLE: the log2 of the ratio of six points, its extremes, and the quality of the linear filter.
 use aec3_common::larger;
-use aec3_common::log2::log2_of_positive;
+use aec3_common::log2::approx_log2;
 use aec3_common::moved;
 use aec3_common::smaller;
 ghost use mathlib.Core.Path.{_≡_};
 ghost use Prim.Native.Nat.{_≤_};
 ghost use Rattle.fullband_channel.specs.Instantaneous.{newLog2, accumulated, greatestWith, leastWith, newQuality, qualityWith, accumulatorsReset, loweredQuality, clampedQuality, qualityOf, holding as Instantaneous·holding, learnt as Instantaneous·learnt, fresh};
-ghost use Rattle.fullband_channel.specs.Steps.{PositiveRatio};
 
 pub const EPSILON: f32 = 0.001;
 
@@ -119,13 +118,12 @@ impl ErleInstantaneous {
     // The log2 value that a point brings: none before the sixth, and none without residual.
     pub(crate) fn new_erle_log2(self, y2_sum: f32, e2_sum: f32) -> OptionalNumber
         requires { ⌜ self .«num_points» ≤ 5 ⌝ }
-        requires { ⌜ PositiveRatio «y2_sum» «e2_sum» self ⌝ }
         ensures { λ r. ⌜ r ≡ newLog2 «y2_sum» «e2_sum» self ⌝ }
     {
         let y2 = self.y2_accum + y2_sum;
         let e2 = self.e2_accum + e2_sum;
         if (self.num_points + 1 == POINTS_TO_ACCUMULATE) & (e2 > 0.0) {
-            OptionalNumber::Number(log2_of_positive(y2 / e2 + EPSILON))
+            OptionalNumber::Number(approx_log2(y2 / e2 + EPSILON))
         } else {
             OptionalNumber::Absent
         }

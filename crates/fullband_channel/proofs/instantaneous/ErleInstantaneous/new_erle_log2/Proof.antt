@@ -1,29 +1,20 @@
 use borrow.Author.Needs.{needs}
 use mathlib.Core.Path.{ap, _∙_}
-use Prim.Native.Nat.{_+_}
-use lib.Dec.{eqb}
 use lib.Ieee.{ofBits}
-use Rattle.aec3_common.proofs.Choices.{and-right}
 use Rattle.fullband_channel.specs.declared.instantaneous.OptionalNumber.the-variants.{Number}
 use Rattle.fullband_channel.proofs.Points.{new-there, new-none}
 use Rattle.fullband_channel.proofs.instantaneous.ErleInstantaneous.new_erle_log2.Statement.{statement}
 use Rattle.fullband_channel.proofs.instantaneous.ErleInstantaneous.new_erle_log2.Tie as tie
 
-log2-of-positive-requires : tie.Need-log2-of-positive-requires
-unfolding ofBits
-log2-of-positive-requires c κs =
-    let start = c .before .before .before .before in
-    start .pre .1 (and-right (eqb (start .args .self .«num_points» + 1) 6) _ (c .if1 .taken))
-
 returns : tie.Need-returns
 unfolding ofBits
 returns c =
     let a = c .before .before .before .before .before .args in
-    ap Number (c .log2-of-positive .ensures) ∙ new-there (a .y2-sum) (a .e2-sum) (a .self) (c .before .if1 .taken)
+    ap Number (c .approx-log2 .ensures) ∙ new-there (a .y2-sum) (a .e2-sum) (a .self) (c .before .if1 .taken)
 
 returns-2 : tie.Need-returns-2
 unfolding ofBits
 returns-2 c = let a = c .before .before .before .before .args in new-none (a .y2-sum) (a .e2-sum) (a .self) (c .if1 .left)
 
 pub new-erle-log2-spec : {M : Type 1} → statement M
-new-erle-log2-spec = tie.close (tie.spec (λ c. search needs) log2-of-positive-requires returns returns-2)
+new-erle-log2-spec = tie.close (tie.spec (λ c. search needs) (λ c κs. search needs) returns returns-2)
