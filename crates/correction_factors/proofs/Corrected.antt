@@ -4,7 +4,7 @@ use mathlib.Core.Bool.{Bool, true, false, cond, _&&_}
 use mathlib.Core.List.{List, []}
 use Prim.Native.Nat.{ℕ, _+_, _≤_, _<_}
 use native.Mathlib.Omega.{arith}
-use borrow.Author.Tests.{eqb-true, ltb-true, ltb-false, leb-true, leb-false, le-leb, lt-ltb}
+use borrow.Author.Tests.{eqb-true, eqb-false, leb-true, leb-false, le-leb, lt-ltb}
 use lib.Dec.{leb, ltb, eqb}
 use lib.Ieee.{Float, nan, binary32, mul}
 use lib.ListN.{length, getD, set, length-set}
@@ -103,17 +103,17 @@ chosen-all {factors} {active} {r} {s} c over =
 -- ---- the last band
 
 -- after the last band is copied
-pub last-copied : (s : List Float) → length s ≡ 65 → set s 64 (getD s 63 nan) ≡ lastCopied s
+pub last-copied : (s : List Float) → set s 64 (getD s 63 nan) ≡ lastCopied s
 unfolding lastCopied
-last-copied s long =
-    tab-is 65 nan (λ j. getD s (ownOr63 j) nan) (set s 64 (getD s 63 nan)) (length-set s 64 (getD s 63 nan) ∙ long)
-    (λ k b. at k b (ltb k 64) refl)
+last-copied s =
+    tab-is (length s) nan (λ j. getD s (ownOr63 j) nan) (set s 64 (getD s 63 nan)) (length-set s 64 (getD s 63 nan))
+    (λ k b. at k b (eqb k 64) refl)
   where
-    at : (k : ℕ) → k < 65 → (q : Bool) → ltb k 64 ≡ q → getD (set s 64 (getD s 63 nan)) k nan ≡ getD s (cond q k 63) nan
-    at k b true p = getD-set-other s 64 k (getD s 63 nan) nan (λ e. omega (arith, ltb-true k 64 p))
-    at k b false p =
-        let last : k ≡ 64 = omega (arith, ltb-false k 64 p) in
+    at : (k : ℕ) → k < length s → (q : Bool) → eqb k 64 ≡ q → getD (set s 64 (getD s 63 nan)) k nan ≡ getD s (cond q 63 k) nan
+    at k b true p =
+        let last : k ≡ 64 = eqb-true k 64 p in
         rw last (getD-set-same s 64 (getD s 63 nan) nan (omega arith))
+    at k b false p = getD-set-other s 64 k (getD s 63 nan) nan (λ e. omega (arith, eqb-false k 64 p))
 
 -- an average corrected band by band, and then the last band copied
 pub corrected-is :
@@ -121,7 +121,8 @@ pub corrected-is :
     → lastCopied (correctedBy min maxL maxH (factorsOf factors active) average) ≡ corrected min maxL maxH factors active average
 unfolding lastCopied correctedBy factorsOf corrected
 corrected-is min maxL maxH factors active average =
-    tab-same 65 nan _ _ (λ j b. let inside : ownOr63 j < 65 = own-inside j b in rw (getD-tab 65 _ (ownOr63 j) nan inside, getD-tab 65 _ (ownOr63 j) nan inside))
+    rw (length-tab 65 (λ k. clamped (mul binary32 (getD average k nan) (getD (tab 65 (λ k. factorOf factors active k)) k nan)) min (maxErle maxL maxH k)))
+    (tab-same 65 nan _ _ (λ j b. let inside : ownOr63 j < 65 = own-inside j b in rw (getD-tab 65 _ (ownOr63 j) nan inside, getD-tab 65 _ (ownOr63 j) nan inside)))
   where
     own-inside : (j : ℕ) → j < 65 → ownOr63 j < 65
-    own-inside j b = cond-has (λ n. n < 65) (ltb j 64) (λ e. b) (λ e. omega arith)
+    own-inside j b = cond-has (λ n. n < 65) (eqb j 64) (λ e. omega arith) (λ e. b)

@@ -2,9 +2,9 @@
 use mathlib.Core.Bool.{cond}
 use mathlib.Core.List.{List}
 use Prim.Native.Nat.{ℕ}
-use lib.Dec.{ltb}
+use lib.Dec.{eqb}
 use lib.Ieee.{Float, nan, binary32, mul}
-use lib.ListN.{getD}
+use lib.ListN.{length, getD}
 use Rattle.aec3_common.specs.Binary32.{clamped}
 use Rattle.aec3_common.specs.Lists.{tab}
 use Rattle.filter_sections.specs.Subbands.{bandToSubband, maxErle}
@@ -12,7 +12,7 @@ use Rattle.correction_factors.specs.Factors.{entryOf}
 
 -- the band whose figure a band shows: band 64 copies 63
 abbrev pub ownOr63 : ℕ → ℕ
-ownOr63 k = cond (ltb k 64) k 63
+ownOr63 k = cond (eqb k 64) 63 k
 
 -- the factor of a band: that of its own active section, in the subband that it maps to
 unfoldable pub factorOf : List Float → List ℕ → ℕ → Float
@@ -28,4 +28,4 @@ corrected min maxL maxH factors active average =
 
 -- a stream that is not corrected keeps bands 0 to 63; 64 copies 63 all the same
 unfoldable pub lastCopied : List Float → List Float
-lastCopied stream = tab 65 (λ j. getD stream (ownOr63 j) nan)
+lastCopied stream = tab (length stream) (λ j. getD stream (ownOr63 j) nan)

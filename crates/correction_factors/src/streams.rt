@@ -70,7 +70,6 @@ fn corrected_band(average: f32, factor: f32, limits: ErleLimits, k: usize) -> f3
 
 // Band 64 copies 63.
 pub fn copy_last(stream: &mut [f32; 65])
-    requires { ⌜ length (now stream) ≡ 65 ⌝ }
     ensures { λ r. ⌜ now (stream .exit) ≡ lastCopied (now (stream .entry)) ⌝ }
 {
     let last = stream[63];

@@ -7,12 +7,8 @@ use Rattle.correction_factors.specs.Streams.{lastCopied}
 use Rattle.correction_factors.proofs.streams.correct_stream.Statement.{statement}
 use Rattle.correction_factors.proofs.streams.correct_stream.Tie as tie
 
-copy-last-requires : tie.Need-copy-last-requires
-unfolding correctedBy
-copy-last-requires c κs = ap length (c .before .correct-bands .ensures) ∙ length-tab 65 _
-
 returns : tie.Need-returns
 returns c = c .copy-last .ensures ∙ ap lastCopied (c .before .before .correct-bands .ensures)
 
 pub correct-stream-spec : {M : Type 1} → statement M
-correct-stream-spec = tie.close (tie.spec (λ c κs. search needs) copy-last-requires returns)
+correct-stream-spec = tie.close (tie.spec (λ c κs. search needs) (λ c κs. search needs) returns)
