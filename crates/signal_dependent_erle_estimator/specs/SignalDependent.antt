@@ -56,18 +56,20 @@ unfoldable pub sameFirst : ℕ → List ℕ → List ℕ → Bool
 sameFirst zero xs ys = true
 sameFirst (suc n) xs ys = sameFirst n xs ys && eqb (getD xs n 0) (getD ys n 0)
 
+-- the settings break none of 1, 2 and 3, and the boundaries held are those that they give
+abbrev pub settingsPass : SignalDependentSettings → List ℕ → Bool
+settingsPass s held = eqb (settingsRefusal s) accepted && sameFirst (suc (s .«num_sections»)) held (boundariesOf s)
+
 -- every active section is below the section count
 unfoldable pub channelOk : ℕ → SignalDependentChannel → Bool
 channelOk sections c = every (λ n. ltb n sections) (c .«n_active_sections»)
 
--- Number 20: the settings break none of 1, 2 and 3, the section boundaries are those that the settings give, and each of the
--- state's channels passes. Records beyond them are not judged, nor numbers behind the last boundary.
+-- Number 20: settings and section boundaries pass, and each of the state's channels. Records beyond them are not judged, nor numbers
+-- behind the last boundary.
 unfoldable pub stateOk : SignalDependentErleEstimator → Bool
 stateOk s =
     let g = s .settings in
-    eqb (settingsRefusal g) accepted
-    && sameFirst (suc (g .«num_sections»)) (s .«section_boundaries_blocks») (boundariesOf g)
-    && every (channelOk (g .«num_sections»)) (take (g .«num_capture_channels») (s .channels))
+    settingsPass g (s .«section_boundaries_blocks») && every (channelOk (g .«num_sections»)) (take (g .«num_capture_channels») (s .channels))
 
 -- a reset is turned away under 20 alone
 unfoldable pub stateRefusal : SignalDependentErleEstimator → ℕ

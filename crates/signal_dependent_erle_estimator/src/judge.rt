@@ -12,21 +12,21 @@ use aec3_common::refusal::BAD_VALUE;
 use aec3_common::refusal::OTHER_CHANNEL_COUNT;
 use aec3_common::settings::headroom_blocks;
 use aec3_common::settings::render_channels_ok;
+use aec3_common::spectra::are_spectra;
 use aec3_common::values_ok;
 use section_echoes::RenderRing;
 use spectrum_buffer::slots_ok;
 ghost use mathlib.Core.Path.{_≡_};
-ghost use mathlib.Core.Bool.{true, _&&_};
+ghost use mathlib.Core.Bool.{_&&_};
 ghost use Prim.Native.Nat.{_*_, _≤_};
 ghost use lib.Dec.{leb, eqb};
 ghost use lib.ListN.{length};
 ghost use Rattle.aec3_common.specs.Binary32.{valuesOk};
 ghost use Rattle.aec3_common.specs.Calls.{valuesInRange};
 ghost use Rattle.aec3_common.specs.Lists.{every};
-ghost use Rattle.aec3_common.specs.Refusal.{accepted};
 ghost use Rattle.section_echoes.specs.Packed.{total};
 ghost use Rattle.section_echoes.specs.Walk.{slotLength};
-ghost use Rattle.signal_dependent_erle_estimator.specs.SignalDependent.{Update, settingsRefusal, slotsReach, ringRefusal, responsesOk, allLengthsOk, refusalOf};
+ghost use Rattle.signal_dependent_erle_estimator.specs.SignalDependent.{Update, slotsReach, ringRefusal, responsesOk, allLengthsOk, refusalOf};
 
 // Number 4: the slots are in their range, and the headroom blocks are not above them.
 fn slots_reach(slots: usize, headroom: usize) -> bool
@@ -62,38 +62,39 @@ fn counts_ok(counts: &[usize], filter_length: usize) -> bool
     ok
 }
 
-fn total_blocks(counts: &[usize]) -> usize
-    requires { ⌜ (length (now counts) ≤ 4) × (every (λ n. leb n 16) (now counts) ≡ true) ⌝ }
-    ensures { λ r. ⌜ r ≡ total (now (counts .entry)) ⌝ }
+// Whether the counts add up to so many blocks. Their sum could wrap, and is not made.
+fn add_up_to(blocks: usize, counts: &[usize]) -> bool
+    ensures { λ r. ⌜ r ≡ eqb blocks (total (now (counts .entry))) ⌝ }
 {
-    let mut blocks = 0;
+    let mut left = blocks;
     let mut ch = 0;
     while ch < counts.len() {
-        blocks = blocks + counts[ch];
+        if left < counts[ch] {
+            return false;
+        }
+        left = left - counts[ch];
         ch += 1;
     }
-    blocks
+    left == 0
 }
 
-// Number 5, of the responses. Counts are judged before they are added up.
-pub fn responses_ok(
+// Number 5, of the responses.
+fn responses_ok(
     channels: usize,
     filter_length: usize,
     counts: &[usize],
     responses: &[f32],
 ) -> bool
-    requires { ⌜ (channels ≤ 4) × («filter_length» ≤ 16) ⌝ }
     ensures { λ r. ⌜ r ≡ responsesOk channels «filter_length» (now (counts .entry)) (now (responses .entry)) ⌝ }
 {
-    if (counts.len() == channels) & counts_ok(counts, filter_length) {
-        responses.len() == total_blocks(counts) * 65
-    } else {
-        false
-    }
+    (counts.len() == channels)
+        & counts_ok(counts, filter_length)
+        & (responses.len() % 65 == 0)
+        & add_up_to(responses.len() / 65, counts)
 }
 
-// Number 5, of the ring's spectra.
-pub fn spectra_ok(ring: RenderRing, spectra: &[f32]) -> bool
+// Number 5, of the spectra of a ring in its range.
+fn spectra_ok(ring: RenderRing, spectra: &[f32]) -> bool
     requires { ⌜ (ring .slots ≤ 32) × (ring .channels ≤ 2) ⌝ }
     ensures { λ r. ⌜ r ≡ eqb (length (now (spectra .entry))) (ring .slots * slotLength (ring .channels)) ⌝ }
 {
@@ -115,14 +116,14 @@ fn all_lengths_ok(
     average_compensated: &[f32],
     converged: &[bool],
 ) -> bool
-    requires { ⌜ (channels ≤ 4) × («filter_length» ≤ 16) × (ring .slots ≤ 32) × (ring .channels ≤ 2) ⌝ }
+    requires { ⌜ (ring .slots ≤ 32) × (ring .channels ≤ 2) ⌝ }
     ensures { λ r. ⌜ r ≡ allLengthsOk «filter_length» (record { channels = channels; ring = ring; spectra = now (spectra .entry); counts = now (counts .entry); responses = now (responses .entry); render = now (x2 .entry); capture = now (y2 .entry); residual = now (e2 .entry); converged = now (converged .entry) }) (now (average .entry)) (now («average_compensated» .entry)) ⌝ }
 {
     lengths_ok(channels, converged, x2, y2, e2)
         & spectra_ok(ring, spectra)
         & responses_ok(channels, filter_length, counts, responses)
-        & (average.len() == channels * 65)
-        & (average_compensated.len() == channels * 65)
+        & are_spectra(average.len(), channels)
+        & are_spectra(average_compensated.len(), channels)
 }
 
 // Number 6, of all that is lent.
@@ -160,7 +161,6 @@ pub fn update_refusal(
     average_compensated: &[f32],
     converged: &[bool],
 ) -> u32
-    requires { ⌜ («state_ok» ≡ true → settingsRefusal settings ≡ accepted) ⌝ }
     ensures { λ r. ⌜ r ≡ refusalOf «state_ok» settings (record { channels = channels; ring = ring; spectra = now (spectra .entry); counts = now (counts .entry); responses = now (responses .entry); render = now (x2 .entry); capture = now (y2 .entry); residual = now (e2 .entry); converged = now (converged .entry) }) (now (average .entry)) (now («average_compensated» .entry)) ⌝ }
 {
     if !state_ok {

@@ -24,7 +24,7 @@ ghost use Rattle.aec3_common.specs.Refusal.{accepted};
 ghost use Rattle.aec3_common.specs.Spectra.{part as Spectra·part};
 ghost use Rattle.signal_dependent_erle_estimator.specs.Runs.{NeverBadState};
 ghost use Rattle.signal_dependent_erle_estimator.specs.Steps.{Passed};
-ghost use Rattle.signal_dependent_erle_estimator.specs.SignalDependent.{Update, sameFirst, boundariesOf, channelOk, stateOk, started as SignalDependent·started, updated as SignalDependent·updated, startAnswer, resetAnswer, updateAnswer};
+ghost use Rattle.signal_dependent_erle_estimator.specs.SignalDependent.{Update, sameFirst, boundariesOf, settingsPass, channelOk, stateOk, started as SignalDependent·started, updated as SignalDependent·updated, startAnswer, resetAnswer, updateAnswer};
 
 pub struct SignalDependentErleEstimator {
     pub settings: SignalDependentSettings,
@@ -51,7 +51,7 @@ pub fn boundaries_of(settings: SignalDependentSettings) -> [usize; 9]
 }
 
 // Whether two tables of boundaries have the same first n.
-pub fn same_first(n: usize, held: &[usize; 9], given: &[usize; 9]) -> bool
+fn same_first(n: usize, held: &[usize; 9], given: &[usize; 9]) -> bool
     requires { ⌜ n ≤ 9 ⌝ }
     ensures { λ r. ⌜ r ≡ sameFirst n (now (held .entry)) (now (given .entry)) ⌝ }
 {
@@ -60,6 +60,18 @@ pub fn same_first(n: usize, held: &[usize; 9], given: &[usize; 9]) -> bool
         same = same & (held[k] == given[k]);
     }
     same
+}
+
+// Whether the settings break none of 1, 2 and 3, and the boundaries held are those that they give.
+pub fn settings_pass(settings: SignalDependentSettings, held: &[usize; 9]) -> bool
+    ensures { λ r. ⌜ r ≡ settingsPass settings (now (held .entry)) ⌝ }
+{
+    if settings.refusal() == ACCEPTED {
+        let given = boundaries_of(settings);
+        same_first(settings.num_sections + 1, held, &given)
+    } else {
+        false
+    }
 }
 
 // All four records as a reset fills them.
@@ -112,11 +124,9 @@ impl SignalDependentErleEstimator {
     fn ok(self) -> bool
         ensures { λ r. ⌜ r ≡ stateOk self ⌝ }
     {
-        let settings = self.settings;
-        if settings.refusal() == ACCEPTED {
-            let held = self.section_boundaries_blocks;
-            let given = boundaries_of(settings);
-            same_first(settings.num_sections + 1, &held, &given) & self.channels_ok()
+        let held = self.section_boundaries_blocks;
+        if settings_pass(self.settings, &held) {
+            self.channels_ok()
         } else {
             false
         }

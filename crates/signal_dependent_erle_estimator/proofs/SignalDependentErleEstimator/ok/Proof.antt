@@ -1,50 +1,28 @@
 use borrow.Author.Needs.{needs}
-use borrow.Author.Tests.{eq-eqb, ne-eqb}
+use borrow.Author.Tests.{eqb-true}
 use mathlib.Core.Path.{_≡_, _∙_, sym}
-use native.Mathlib.Numerals.{add-one}
-use native.Mathlib.Omega.{arith}
+use lib.Dec.{eqb}
 use Rattle.aec3_common.specs.Refusal.{accepted}
+use Rattle.aec3_common.proofs.Choices.{and-left}
 use Rattle.signal_dependent_erle_estimator.specs.SignalDependent.{settingsRefusal, stateOk}
 use Rattle.signal_dependent_erle_estimator.proofs.Judged.{few-captures, eight-sections}
 use Rattle.signal_dependent_erle_estimator.proofs.SignalDependentErleEstimator.ok.Statement.{statement}
 use Rattle.signal_dependent_erle_estimator.proofs.SignalDependentErleEstimator.ok.Tie as tie
 
--- the settings pass
-passes : (c : tie.Then1) → settingsRefusal (c .before .before .before .args .self .settings) ≡ accepted
-passes c = sym (c .before .refusal .ensures) ∙ c .if1 .taken
-
-add-same-first : tie.Need-add-same-first
-add-same-first c = record { fits = omega (arith, eight-sections _ (passes (c .before .before .before))) }
-
-same-first-requires : tie.Need-same-first-requires
-same-first-requires c κs = omega (arith, eight-sections _ (passes (c .before .before .before .before .before)))
-
 channels-ok-requires : tie.Need-channels-ok-requires
-channels-ok-requires c κs = (few-captures _ (passes (c .before .before .before .before .before .before)), eight-sections _ (passes (c .before .before .before .before .before .before)))
+channels-ok-requires c κs =
+    let g = c .before .before .before .before .args .self .settings in
+    let ok : settingsRefusal g ≡ accepted =
+    eqb-true (settingsRefusal g) accepted (and-left (eqb (settingsRefusal g) accepted) _ (sym (c .before .settings-pass .ensures) ∙ c .if1 .taken)) in
+    (few-captures g ok, eight-sections g ok)
 
 returns : tie.Need-returns
 unfolding stateOk
-returns c =
-    simp (
-      c .channels-ok .ensures,
-      c .before .same-first .ensures,
-      c .before .before .before .before .before .boundaries-of .ensures,
-      add-one,
-      eq-eqb _ _ (passes (c .before .before .before .before .before .before .before)),
-    )
+returns c = simp (c .channels-ok .ensures, sym (c .before .before .settings-pass .ensures) ∙ c .before .if1 .taken)
 
 returns-2 : tie.Need-returns-2
 unfolding stateOk
-returns-2 c = simp (ne-eqb _ _ (λ z. c .if1 .left (c .before .refusal .ensures ∙ z)))
+returns-2 c = simp (sym (c .before .settings-pass .ensures) ∙ c .if1 .left)
 
 pub ok-spec : {M : Type 1} → statement M
-ok-spec =
-    tie.close
-    (tie.spec
-    (λ c κs. search needs)
-    (λ c κs. search needs)
-    add-same-first
-    same-first-requires
-    channels-ok-requires
-    returns
-    returns-2)
+ok-spec = tie.close (tie.spec (λ c κs. search needs) channels-ok-requires returns returns-2)

@@ -8,7 +8,7 @@ use Rattle.aec3_common.specs.Refusal.{accepted}
 use Rattle.aec3_common.specs.Spectra.{part}
 use Rattle.aec3_common.proofs.Choices.{and-left, and-right, cond-neither}
 use Rattle.signal_dependent_erle_estimator.specs.SignalDependent.{Update, updateRefusal, updated, afterAccepted, updateAnswer}
-use Rattle.signal_dependent_erle_estimator.proofs.Judged.{settings-passed, update-passed}
+use Rattle.signal_dependent_erle_estimator.proofs.Judged.{update-passed}
 use Rattle.signal_dependent_erle_estimator.proofs.SignalDependentErleEstimator.update.Statement.{statement}
 use Rattle.signal_dependent_erle_estimator.proofs.SignalDependentErleEstimator.update.Tie as tie
 
@@ -31,9 +31,6 @@ call c =
 -- the number under which it is turned away, or 0
 abbrev refusal : tie.Start → ℕ
 refusal c = updateRefusal (c .args .self) (call c) (c .args .average .now) (c .args .average-compensated .now)
-
-update-refusal-requires : tie.Need-update-refusal-requires
-update-refusal-requires c κs = λ ok. settings-passed (c .before .before .before .before .before .before .before .before .before .before .before .args .self) (sym (c .ok .ensures) ∙ ok)
 
 -- the call is judged
 refused-by :
@@ -70,4 +67,4 @@ returns-2 c =
     λ i. record { state = stays i; refused = judged i }
 
 pub update-spec : {M : Type 1} → statement M
-update-spec = tie.close (tie.spec (λ c κs. search needs) update-refusal-requires updated-requires returns returns-2)
+update-spec = tie.close (tie.spec (λ c κs. search needs) (λ c κs. search needs) updated-requires returns returns-2)

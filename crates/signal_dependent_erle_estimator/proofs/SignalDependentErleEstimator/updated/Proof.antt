@@ -114,18 +114,6 @@ below c = omega (arith, c .loop-test .taken, few (entry c))
 shared-slice-read-update : tie.Need-shared-slice-read-update Inv-loop μ-loop
 shared-slice-read-update c = omega (arith, c .before .before .before .before .loop-test .taken, accepted-call (entry (c .before .before .before .before)) .flags)
 
-part-requires : tie.Need-part-requires Inv-loop μ-loop
-part-requires c κs = omega (arith, c .before .before .before .before .loop-test .taken, accepted-call (entry (c .before .before .before .before)) .capture)
-
-part-requires-2 : tie.Need-part-requires-2 Inv-loop μ-loop
-part-requires-2 c κs = omega (arith, c .before .before .before .before .before .loop-test .taken, accepted-call (entry (c .before .before .before .before .before)) .residual)
-
-part-requires-3 : tie.Need-part-requires-3 Inv-loop μ-loop
-part-requires-3 c κs = omega (arith, c .before .before .before .before .before .before .loop-test .taken, accepted-call (entry (c .before .before .before .before .before .before)) .plain)
-
-part-requires-4 : tie.Need-part-requires-4 Inv-loop μ-loop
-part-requires-4 c κs = omega (arith, c .before .before .before .before .before .before .before .loop-test .taken, accepted-call (entry (c .before .before .before .before .before .before .before)) .compensated)
-
 update-requires : tie.Need-update-requires Inv-loop μ-loop
 update-requires c κs =
     let turn = c .before .before .before .before .before .before .before .before in
@@ -188,10 +176,10 @@ updated-spec =
     (λ c. record { fits = omega (arith, below (c .before)) })
     (λ c. below (c .before))
     shared-slice-read-update
-    part-requires
-    part-requires-2
-    part-requires-3
-    part-requires-4
+    (λ c κs. search needs)
+    (λ c κs. search needs)
+    (λ c κs. search needs)
+    (λ c κs. search needs)
     update-requires
     (λ c. record { fits = omega (arith, below (c .before .before .before .before .before .before .before .before .before)) })
     (λ c. below (c .before .before .before .before .before .before .before .before .before))

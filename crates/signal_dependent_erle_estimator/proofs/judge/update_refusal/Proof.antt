@@ -1,11 +1,10 @@
 use borrow.Author.Needs.{needs}
 use borrow.Author.Tests.{eq-eqb, ne-eqb, not-true, not-false}
 use mathlib.Core.Path.{_≡_, _∙_, sym, ap}
-use native.Mathlib.Omega.{arith}
 use Prim.Native.Nat.{ℕ}
 use Rattle.aec3_common.specs.Settings.{headroomBlocks}
 use Rattle.signal_dependent_erle_estimator.specs.SignalDependent.{ringRefusal, lentValuesOk, allValuesOk, refusalOf}
-use Rattle.signal_dependent_erle_estimator.proofs.Judged.{few-captures, sixteen-blocks, ring-passed}
+use Rattle.signal_dependent_erle_estimator.proofs.Judged.{ring-passed}
 use Rattle.signal_dependent_erle_estimator.proofs.judge.update_refusal.Statement.{statement}
 use Rattle.signal_dependent_erle_estimator.proofs.judge.update_refusal.Tie as tie
 
@@ -44,9 +43,8 @@ all-lengths-ok-requires : tie.Need-all-lengths-ok-requires
 all-lengths-ok-requires c κs =
     let start = entry (c .before .before .before .before .before) in
     let g = start .args .settings in
-    let ok = start .pre (not-false (entry (c .before .before .before .before .before) .args .state-ok) (c .before .before .before .before .before .if1 .left)) in
     let ring = ring-passed (headroomBlocks (g .«delay_headroom_samples»)) (start .args .ring) (ring-judged (c .before) ∙ c .if3 .left) in
-    (omega (arith, c .before .before .before .if2 .left, few-captures g ok), sixteen-blocks g ok, ring .slots, ring .channels)
+    (ring .slots, ring .channels)
 
 returns-4 : tie.Need-returns-4
 unfolding refusalOf

@@ -21,9 +21,6 @@ correct-stream-requires c κs = let start = c .before .before .before .before .b
 correct-stream-requires-2 : tie.Need-correct-stream-requires-2
 correct-stream-requires-2 c κs = let start = c .before .before .before .before .before .before .before .before .before .before .before .before .before .before .before .before in (long start .1, start .pre .1 .1 .3)
 
-copy-last-requires : tie.Need-copy-last-requires
-copy-last-requires c κs = long (c .before .before .before .before .before .before .before .before .before .before .before .before .before .before .before) .1
-
 returns : tie.Need-returns
 returns c =
     let corrects = c .before .before .before .before in
@@ -49,6 +46,6 @@ update-spec =
     (λ c κs. search needs)
     correct-stream-requires
     correct-stream-requires-2
-    copy-last-requires
+    (λ c κs. search needs)
     returns
     returns-2)
