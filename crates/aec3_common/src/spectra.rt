@@ -24,7 +24,11 @@ fn part_end(numbers: usize, begin: usize) -> usize
     requires { ⌜ begin ≤ numbers ⌝ }
     ensures { λ r. ⌜ r ≡ cond (ltb (numbers - begin) 65) numbers (begin + 65) ⌝ }
 {
-    if numbers - begin < 65 { numbers } else { begin + 65 }
+    if numbers - begin < 65 {
+        numbers
+    } else {
+        begin + 65
+    }
 }
 
 // A channel's 65 numbers: the part that begins at channel times 65. A slice that ends before gives what it has there.

@@ -15,7 +15,7 @@ ghost use lib.Dec.{leb, ltb};
 ghost use lib.ListN.{length};
 ghost use Rattle.aec3_common.specs.Binary32.{valuesOk};
 ghost use Rattle.aec3_common.specs.Lists.{every};
-ghost use Rattle.aec3_common.specs.Settings.{headroomBlocks};
+ghost use Rattle.aec3_common.specs.Settings.{headroomBlocks, maxFilterLengthBlocks};
 ghost use Rattle.aec3_common.specs.Spectra.{sum};
 ghost use Rattle.section_echoes.specs.Packed.{total};
 ghost use Rattle.section_echoes.specs.Steps.{RingFits, allActive};
@@ -104,8 +104,8 @@ pub fn active_sections(
     responses: &[f32],
 ) -> [[u32; 65]; 4]
     requires { ⌜ RingFits ring (now spectra) ⌝ }
-    requires { ⌜ (1 < settings .«num_sections» → headroomBlocks (settings .«delay_headroom_samples») < 16) × (settings .«num_sections» ≤ 8) × (length (now «response_blocks») ≤ 4) ⌝ }
-    requires { ⌜ (every (λ n. leb n 16) (now «response_blocks») ≡ true) × (length (now responses) ≡ total (now «response_blocks») * 65) ⌝ }
+    requires { ⌜ (1 < settings .«num_sections» → headroomBlocks (settings .«delay_headroom_samples») < maxFilterLengthBlocks) × (settings .«num_sections» ≤ 8) × (length (now «response_blocks») ≤ 4) ⌝ }
+    requires { ⌜ (every (λ n. leb n maxFilterLengthBlocks) (now «response_blocks») ≡ true) × (length (now responses) ≡ total (now «response_blocks») * 65) ⌝ }
     ensures { λ r. ⌜ (1 < settings .«num_sections» → r ≡ allActive ring (now (spectra .entry)) (headroomBlocks (settings .«delay_headroom_samples»)) (now (boundaries .entry)) (settings .«num_sections») (now («response_blocks» .entry)) (now (responses .entry))) ⌝ }
 {
     if settings.num_sections > 1 {

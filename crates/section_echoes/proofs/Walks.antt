@@ -10,11 +10,12 @@ use lib.ListN.{length, getD, set}
 use Rattle.aec3_common.specs.Lists.{tab}
 use Rattle.aec3_common.proofs.Tables.{length-tab, getD-tab, Stored, stored-more, stored-all}
 use Rattle.section_echoes.proofs.Tables.{stored-begun}
-use Rattle.spectrum_buffer.specs.Ring.{nextPlace, offsetPlace}
+use Rattle.spectrum_buffer.specs.Ring.{nextPlace, offsetPlace, maxSlots}
 use Rattle.spectrum_buffer.proofs.Walks.{places-on, place-on}
 use Rattle.section_echoes.specs.declared.RenderRing.{RenderRing}
 use Rattle.section_echoes.specs.Walk.{placeOn, walkedPlace, slotLength}
 use Rattle.section_echoes.specs.Steps.{RingFits, walkedPositions}
+use Rattle.aec3_common.specs.Settings.{maxFilterLengthBlocks}
 
 -- n places on: the sum's remainder
 pub place-after : (slots place n : ℕ) → place < slots → placeOn slots place n ≡ (place + n) % slots
@@ -64,21 +65,21 @@ positionOf ring headroom block = walkedPlace (ring .slots) (ring .position) head
 pub record Walking (ring : RenderRing) (headroom : ℕ) (xs : List ℕ) (place : ℕ) (r : List ℕ) (block : ℕ) : Type 0 where
   pub after : headroom < block
   pub here : place ≡ walkedPlace (ring .slots) (ring .position) headroom (block - 1)
-  pub stored : Stored 16 0 0 16 (positionOf ring headroom) xs r block
+  pub stored : Stored maxFilterLengthBlocks 0 0 maxFilterLengthBlocks (positionOf ring headroom) xs r block
 
 module _ (ring : RenderRing) (headroom : ℕ) where
   pub walking-begun :
-      (place : ℕ) → place ≡ offsetPlace (ring .slots) (ring .position) (pos headroom) → headroom < 16
-      → Walking ring headroom (tab 16 (λ j. place * slotLength (ring .channels))) place (tab 16 (λ j. place * slotLength (ring .channels))) (headroom + 1)
+      (place : ℕ) → place ≡ offsetPlace (ring .slots) (ring .position) (pos headroom) → headroom < maxFilterLengthBlocks
+      → Walking ring headroom (tab maxFilterLengthBlocks (λ j. place * slotLength (ring .channels))) place (tab maxFilterLengthBlocks (λ j. place * slotLength (ring .channels))) (headroom + 1)
   walking-begun place at few =
       record {
         after = omega arith;
         here = at ∙ walked-first (ring .slots) (ring .position) headroom (headroom + 1 - 1) (omega arith);
         stored =
-            stored-begun 0 16 (positionOf ring headroom) (tab 16 (λ j. place * slotLength (ring .channels))) (headroom + 1) (omega arith)
-            (length-tab 16 (λ j. place * slotLength (ring .channels)))
+            stored-begun 0 maxFilterLengthBlocks (positionOf ring headroom) (tab maxFilterLengthBlocks (λ j. place * slotLength (ring .channels))) (headroom + 1) (omega arith)
+            (length-tab maxFilterLengthBlocks (λ j. place * slotLength (ring .channels)))
             (λ j b.
-            getD-tab 16 (λ i. place * slotLength (ring .channels)) j 0 (omega arith)
+            getD-tab maxFilterLengthBlocks (λ i. place * slotLength (ring .channels)) j 0 (omega arith)
             ∙ ap (λ (p : ℕ). p * slotLength (ring .channels)) (at ∙ walked-first (ring .slots) (ring .position) headroom j (omega arith)));
       }
 
@@ -88,7 +89,7 @@ module _ (ring : RenderRing) (headroom : ℕ) where
     walking-on next e = e ∙ ap (nextPlace (ring .slots)) (w .here) ∙ walked-next (ring .slots) (ring .position) headroom block (w .after)
 
     pub walking-more :
-        (next : ℕ) → next ≡ nextPlace (ring .slots) place → block < 16
+        (next : ℕ) → next ≡ nextPlace (ring .slots) place → block < maxFilterLengthBlocks
         → Walking ring headroom xs next (set r block (next * slotLength (ring .channels))) (block + 1)
     walking-more next e h =
         let here : block ≡ block + 1 - 1 = omega arith in
@@ -100,20 +101,20 @@ module _ (ring : RenderRing) (headroom : ℕ) where
               (ap (λ (p : ℕ). p * slotLength (ring .channels)) (walking-on next e));
         }
 
-    pub walking-over : 16 ≤ block → r ≡ walkedPositions ring headroom
+    pub walking-over : maxFilterLengthBlocks ≤ block → r ≡ walkedPositions ring headroom
     unfolding walkedPositions
     walking-over h = stored-all (w .stored) h
 
 -- ---- in the spectra
 
 -- a place's position is small
-pub position-small : (place slots channels : ℕ) → place < slots → slots ≤ 32 → channels ≤ 2 → place * slotLength channels ≤ 32 * 130
-position-small place slots channels h few pair = mul-le-mul {n₁ = place} {m₁ = channels * 65} {n₂ = 32} {m₂ = 130} (omega arith) (omega arith)
+pub position-small : (place slots channels : ℕ) → place < slots → slots ≤ maxSlots → channels ≤ 2 → place * slotLength channels ≤ maxSlots * 130
+position-small place slots channels h few pair = mul-le-mul {n₁ = place} {m₁ = channels * 65} {n₂ = maxSlots} {m₂ = 130} (omega arith) (omega arith)
 
-module _ (ring : RenderRing) (headroom : ℕ) (positions : List ℕ) (block : ℕ) (are : positions ≡ walkedPositions ring headroom) (h : block < 16) where
+module _ (ring : RenderRing) (headroom : ℕ) (positions : List ℕ) (block : ℕ) (are : positions ≡ walkedPositions ring headroom) (h : block < maxFilterLengthBlocks) where
   pub position-at : getD positions block 0 ≡ positionOf ring headroom block
   unfolding walkedPositions
-  position-at = ap (λ (l : List ℕ). getD l block 0) are ∙ getD-tab 16 (positionOf ring headroom) block 0 h
+  position-at = ap (λ (l : List ℕ). getD l block 0) are ∙ getD-tab maxFilterLengthBlocks (positionOf ring headroom) block 0 h
 
   -- the slot at a block's position lies in the spectra
   pub position-fits : (spectra : List Float) → RingFits ring spectra → getD positions block 0 + ring .channels * 65 ≤ length spectra

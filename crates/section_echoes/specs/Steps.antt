@@ -13,6 +13,8 @@ use Rattle.section_echoes.specs.declared.RenderRing.{RenderRing}
 use Rattle.section_echoes.specs.Walk.{walkedPlace, slotLength}
 use Rattle.section_echoes.specs.Echoes.{sectionRender, sectionResponse, echoSum, activeSections}
 use Rattle.section_echoes.specs.Packed.{responsesOf}
+use Rattle.aec3_common.specs.Settings.{maxFilterLengthBlocks}
+use Rattle.spectrum_buffer.specs.Ring.{maxSlots}
 
 -- 65 entries
 abbrev pub bands : {A : Type 0} → (ℕ → A) → List A
@@ -21,7 +23,7 @@ bands f = tab 65 f
 -- where the slots begin in the spectra that the filter's blocks read
 unfoldable pub walkedPositions : RenderRing → ℕ → List ℕ
 walkedPositions ring headroom =
-    tab 16 (λ block. walkedPlace (ring .slots) (ring .position) headroom block * slotLength (ring .channels))
+    tab maxFilterLengthBlocks (λ block. walkedPlace (ring .slots) (ring .position) headroom block * slotLength (ring .channels))
 
 -- each band with a share of a power added
 unfoldable pub withShares : List Float → Float → List Float → List Float
@@ -62,14 +64,14 @@ echoSums render responses boundaries sections count =
 
 -- what makes a ring safe to walk: its place is one of its slots, and its spectra have the length that its counts ask
 pub record RingFits (ring : RenderRing) (spectra : List Float) : Type 0 where
-  pub slots : ring .slots ≤ 32
+  pub slots : ring .slots ≤ maxSlots
   pub channels : ring .channels ≤ 2
   pub place : ring .position < ring .slots
   pub long : length spectra ≡ ring .slots * slotLength (ring .channels)
 
 -- and responses: so many blocks of 65, not more than the longest filter
 pub record ResponsesFit (count : ℕ) (responses : List Float) : Type 0 where
-  pub few : count ≤ 16
+  pub few : count ≤ maxFilterLengthBlocks
   pub long : length responses ≡ count * 65
 
 -- the active sections of each channel that has a count of responses; zeros behind them

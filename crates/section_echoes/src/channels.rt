@@ -11,6 +11,7 @@ ghost use lib.ListN.{length};
 ghost use Rattle.aec3_common.specs.Lists.{every};
 ghost use Rattle.section_echoes.specs.Packed.{total};
 ghost use Rattle.section_echoes.specs.Steps.{RingFits, renderSums, allActive};
+ghost use Rattle.aec3_common.specs.Settings.{maxFilterLengthBlocks};
 
 // Render sums made anew where they were made for another number of responses. Channels with as many share them.
 fn renew_render_sums(
@@ -24,7 +25,7 @@ fn renew_render_sums(
     count: usize,
 )
     requires { ⌜ RingFits ring (now spectra) ⌝ }
-    requires { ⌜ (headroom < 16) × (sections ≤ 8) × (count ≤ 16) ⌝ }
+    requires { ⌜ (headroom < maxFilterLengthBlocks) × (sections ≤ 8) × (count ≤ maxFilterLengthBlocks) ⌝ }
     requires { ⌜ now sums ≡ renderSums ring (now spectra) headroom (now boundaries) sections «made_for» ⌝ }
     ensures { λ r. ⌜ now (sums .exit) ≡ renderSums ring (now (spectra .entry)) headroom (now (boundaries .entry)) sections count ⌝ }
 {
@@ -45,8 +46,8 @@ pub fn all_active_sections(
     responses: &[f32],
 ) -> [[u32; 65]; 4]
     requires { ⌜ RingFits ring (now spectra) ⌝ }
-    requires { ⌜ (headroom < 16) × (1 ≤ sections) × (sections ≤ 8) × (length (now counts) ≤ 4) ⌝ }
-    requires { ⌜ (every (λ n. leb n 16) (now counts) ≡ true) × (length (now responses) ≡ total (now counts) * 65) ⌝ }
+    requires { ⌜ (headroom < maxFilterLengthBlocks) × (1 ≤ sections) × (sections ≤ 8) × (length (now counts) ≤ 4) ⌝ }
+    requires { ⌜ (every (λ n. leb n maxFilterLengthBlocks) (now counts) ≡ true) × (length (now responses) ≡ total (now counts) * 65) ⌝ }
     ensures { λ r. ⌜ r ≡ allActive ring (now (spectra .entry)) headroom (now (boundaries .entry)) sections (now (counts .entry)) (now (responses .entry)) ⌝ }
 {
     let mut r = [[0; 65]; 4];

@@ -6,6 +6,7 @@ ghost use lib.Ieee.{nan, binary32, add, mul};
 ghost use lib.ListN.{length, getD};
 ghost use Rattle.section_echoes.specs.Echoes.{responseSum};
 ghost use Rattle.section_echoes.specs.Steps.{ResponsesFit, bands, withPowers, echoSums};
+ghost use Rattle.aec3_common.specs.Settings.{maxFilterLengthBlocks};
 
 fn add_powers(sums: &mut [f32; 65], powers: &[f32])
     requires { ⌜ (length (now sums) ≡ 65) × (length (now powers) ≡ 65) ⌝ }
@@ -18,7 +19,7 @@ fn add_powers(sums: &mut [f32; 65], powers: &[f32])
 
 // The responses of the blocks from one to below another.
 fn section_response(responses: &[f32], from: usize, to: usize) -> [f32; 65]
-    requires { ⌜ (to * 65 ≤ length (now responses)) × (to ≤ 16) ⌝ }
+    requires { ⌜ (to * 65 ≤ length (now responses)) × (to ≤ maxFilterLengthBlocks) ⌝ }
     ensures { λ r. ⌜ r ≡ bands (responseSum (now (responses .entry)) from (to - from)) ⌝ }
 {
     let mut sums = [0.0; 65];

@@ -2,11 +2,13 @@
 use crate::RenderRing;
 use crate::walk::walked_positions;
 use aec3_common::log2::rounded;
+use aec3_common::settings::MAX_FILTER_LENGTH_BLOCKS;
 ghost use mathlib.Core.Path.{_≡_};
 ghost use Prim.Native.Nat.{_+_, _-_, _*_, _≤_, _<_};
 ghost use lib.ListN.{length};
 ghost use Rattle.section_echoes.specs.Echoes.{fewer as Echoes·fewer, renderShare, renderSum};
 ghost use Rattle.section_echoes.specs.Steps.{RingFits, bands, walkedPositions, withShares, withSlot, renderSums};
+ghost use Rattle.aec3_common.specs.Settings.{maxFilterLengthBlocks};
 
 pub fn fewer(a: usize, b: usize) -> usize
     ensures { λ r. ⌜ r ≡ Echoes·fewer a b ⌝ }
@@ -42,13 +44,13 @@ fn section_render(
     ring: RenderRing,
     spectra: &[f32],
     headroom: usize,
-    positions: &[usize; 16],
+    positions: &[usize; MAX_FILTER_LENGTH_BLOCKS],
     share: f32,
     from: usize,
     to: usize,
 ) -> [f32; 65]
     requires { ⌜ RingFits ring (now spectra) ⌝ }
-    requires { ⌜ (now positions ≡ walkedPositions ring headroom) × (share ≡ renderShare (ring .channels)) × (to ≤ 16) ⌝ }
+    requires { ⌜ (now positions ≡ walkedPositions ring headroom) × (share ≡ renderShare (ring .channels)) × (to ≤ maxFilterLengthBlocks) ⌝ }
     ensures { λ r. ⌜ r ≡ bands (renderSum ring (now (spectra .entry)) headroom from (to - from)) ⌝ }
 {
     let mut sums = [0.0; 65];
@@ -68,7 +70,7 @@ pub fn render_sums(
     count: usize,
 ) -> [[f32; 65]; 8]
     requires { ⌜ RingFits ring (now spectra) ⌝ }
-    requires { ⌜ (headroom < 16) × (sections ≤ 8) × (count ≤ 16) ⌝ }
+    requires { ⌜ (headroom < maxFilterLengthBlocks) × (sections ≤ 8) × (count ≤ maxFilterLengthBlocks) ⌝ }
     ensures { λ r. ⌜ r ≡ renderSums ring (now (spectra .entry)) headroom (now (boundaries .entry)) sections count ⌝ }
 {
     let positions = walked_positions(ring, headroom);

@@ -11,7 +11,7 @@ use lib.ListN.{length, getD}
 use Rattle.aec3_common.specs.Calls.{lengthsOk}
 use Rattle.aec3_common.specs.Lists.{every}
 use Rattle.aec3_common.specs.Refusal.{unless, firstOf, accepted, badRing, badPlace}
-use Rattle.aec3_common.specs.Settings.{maxRenderChannels, headroomBlocks, renderChannelsOk, rangesOk, sectionsOk}
+use Rattle.aec3_common.specs.Settings.{maxRenderChannels, headroomBlocks, renderChannelsOk, rangesOk, sectionsOk, maxFilterLengthBlocks}
 use Rattle.aec3_common.proofs.Calls.{few-channels, first-passed, sections-passed}
 use Rattle.aec3_common.proofs.Choices.{and-left, and-right, each-of-three, each-of-four, passed, later-passed, first-of-passed}
 use Rattle.aec3_common.proofs.Ranges.{to-hi, some-sections, few-sections, short-filter, sections-in-ranges, room-for-sections}
@@ -48,16 +48,16 @@ module _ (g : SignalDependentSettings) (ok : settingsRefusal g ≡ accepted) whe
   pub eight-sections : g .«num_sections» ≤ 8
   eight-sections = few-sections (g .«num_sections») (g .«filter_length_blocks») (g .«delay_headroom_samples») in-ranges
 
-  pub sixteen-blocks : g .«filter_length_blocks» ≤ 16
-  sixteen-blocks = short-filter (g .«num_sections») (g .«filter_length_blocks») (g .«delay_headroom_samples») in-ranges
+  pub filter-within : g .«filter_length_blocks» ≤ maxFilterLengthBlocks
+  filter-within = short-filter (g .«num_sections») (g .«filter_length_blocks») (g .«delay_headroom_samples») in-ranges
 
   -- with two sections or more the headroom leaves room in the filter
-  pub headroom-inside : 2 ≤ g .«num_sections» → headroomBlocks (g .«delay_headroom_samples») < 16
+  pub headroom-inside : 2 ≤ g .«num_sections» → headroomBlocks (g .«delay_headroom_samples») < maxFilterLengthBlocks
   headroom-inside many =
       omega (
         arith,
         room-for-sections (g .«num_sections») (g .«filter_length_blocks») (g .«delay_headroom_samples») three-passed many,
-        sixteen-blocks,
+        filter-within,
       )
 
 pub settings-passed : (s : SignalDependentErleEstimator) → stateOk s ≡ true → settingsRefusal (s .settings) ≡ accepted
@@ -68,7 +68,7 @@ settings-passed s ok = eqb-true _ _ (and-left (eqb (settingsRefusal (s .settings
 
 pub record RingPassed (ring : RenderRing) : Type 0 where
   pub channels : ring .channels ≤ 2
-  pub slots : ring .slots ≤ 32
+  pub slots : ring .slots ≤ maxSlots
   pub place : ring .position < ring .slots
 
 pub ring-passed : (headroom : ℕ) (ring : RenderRing) → ringRefusal headroom ring ≡ accepted → RingPassed ring
@@ -131,7 +131,7 @@ update-passed s u average averageCompensated e =
       plain = eqb-true _ _ plains;
       compensated = eqb-true _ _ compensateds;
       counts = eqb-true _ _ listed;
-      blocks = each-at-most most 16 (u .counts) (sixteen-blocks g settings) few;
+      blocks = each-at-most most maxFilterLengthBlocks (u .counts) (filter-within g settings) few;
       responses = eqb-true _ _ packed;
     }
 

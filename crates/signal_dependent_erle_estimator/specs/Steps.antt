@@ -12,6 +12,7 @@ use Rattle.section_echoes.specs.Packed.{total}
 use Rattle.section_echoes.specs.Steps.{RingFits}
 use Rattle.signal_dependent_erle_estimator.specs.declared.SignalDependentErleEstimator.{SignalDependentErleEstimator}
 use Rattle.signal_dependent_erle_estimator.specs.SignalDependent.{Update, settingsRefusal}
+use Rattle.aec3_common.specs.Settings.{maxFilterLengthBlocks}
 
 -- an accepted update: settings and a ring that pass, and all that is lent as long as the channels and the counts ask
 pub record Passed (s : SignalDependentErleEstimator) (u : Update) (average averageCompensated : List Float) : Type 0 where
@@ -25,5 +26,5 @@ pub record Passed (s : SignalDependentErleEstimator) (u : Update) (average avera
   pub plain : length average ≡ u .channels * 65
   pub compensated : length averageCompensated ≡ u .channels * 65
   pub counts : length (u .counts) ≡ u .channels
-  pub blocks : every (λ n. leb n 16) (u .counts) ≡ true
+  pub blocks : every (λ n. leb n maxFilterLengthBlocks) (u .counts) ≡ true
   pub responses : length (u .responses) ≡ total (u .counts) * 65

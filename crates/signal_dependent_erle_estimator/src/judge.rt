@@ -27,6 +27,7 @@ ghost use Rattle.aec3_common.specs.Lists.{every};
 ghost use Rattle.section_echoes.specs.Packed.{total};
 ghost use Rattle.section_echoes.specs.Walk.{slotLength};
 ghost use Rattle.signal_dependent_erle_estimator.specs.SignalDependent.{Update, slotsReach, ringRefusal, responsesOk, allLengthsOk, refusalOf};
+ghost use Rattle.spectrum_buffer.specs.Ring.{maxSlots};
 
 // Number 4: the slots are in their range, and the headroom blocks are not above them.
 fn slots_reach(slots: usize, headroom: usize) -> bool
@@ -79,12 +80,7 @@ fn add_up_to(blocks: usize, counts: &[usize]) -> bool
 }
 
 // Number 5, of the responses.
-fn responses_ok(
-    channels: usize,
-    filter_length: usize,
-    counts: &[usize],
-    responses: &[f32],
-) -> bool
+fn responses_ok(channels: usize, filter_length: usize, counts: &[usize], responses: &[f32]) -> bool
     ensures { λ r. ⌜ r ≡ responsesOk channels «filter_length» (now (counts .entry)) (now (responses .entry)) ⌝ }
 {
     (counts.len() == channels)
@@ -95,7 +91,7 @@ fn responses_ok(
 
 // Number 5, of the spectra of a ring in its range.
 fn spectra_ok(ring: RenderRing, spectra: &[f32]) -> bool
-    requires { ⌜ (ring .slots ≤ 32) × (ring .channels ≤ 2) ⌝ }
+    requires { ⌜ (ring .slots ≤ maxSlots) × (ring .channels ≤ 2) ⌝ }
     ensures { λ r. ⌜ r ≡ eqb (length (now (spectra .entry))) (ring .slots * slotLength (ring .channels)) ⌝ }
 {
     spectra.len() == ring.slots * (ring.channels * 65)
@@ -116,7 +112,7 @@ fn all_lengths_ok(
     average_compensated: &[f32],
     converged: &[bool],
 ) -> bool
-    requires { ⌜ (ring .slots ≤ 32) × (ring .channels ≤ 2) ⌝ }
+    requires { ⌜ (ring .slots ≤ maxSlots) × (ring .channels ≤ 2) ⌝ }
     ensures { λ r. ⌜ r ≡ allLengthsOk «filter_length» (record { channels = channels; ring = ring; spectra = now (spectra .entry); counts = now (counts .entry); responses = now (responses .entry); render = now (x2 .entry); capture = now (y2 .entry); residual = now (e2 .entry); converged = now (converged .entry) }) (now (average .entry)) (now («average_compensated» .entry)) ⌝ }
 {
     lengths_ok(channels, converged, x2, y2, e2)

@@ -18,6 +18,7 @@ use Rattle.section_echoes.proofs.EachChannel.{Going, going-begun, going
 use Rattle.section_echoes.proofs.Packed.{total-more, total-part, total-small, packed-end, packed-long}
 use Rattle.section_echoes.proofs.channels.all_active_sections.Statement.{statement}
 use Rattle.section_echoes.proofs.channels.all_active_sections.Tie as tie
+use Rattle.aec3_common.specs.Settings.{maxFilterLengthBlocks}
 
 abbrev Inv-loop : tie.InvT-loop
 Inv-loop ring spectra headroom boundaries sections counts responses r₀ render₀ made-for₀ at₀ ch₀ r render made-for at ch =
@@ -40,16 +41,16 @@ loop-holds c =
 abbrev countIn : tie.In-loop Inv-loop μ-loop → ℕ
 countIn c = getD (entry (c .before) .args .counts .now) (c .before .loop .ch) 0
 
-few : (c : tie.In-loop Inv-loop μ-loop) → countIn c ≤ 16
+few : (c : tie.In-loop Inv-loop μ-loop) → countIn c ≤ maxFilterLengthBlocks
 few c =
     let start = entry (c .before) in
-    leb-true (countIn c) 16 (every-at (λ n. leb n 16) (start .args .counts .now) 0 (c .before .loop .ch) (start .pre .1 .1 .0) (c .loop-test .taken))
+    leb-true (countIn c) maxFilterLengthBlocks (every-at (λ n. leb n maxFilterLengthBlocks) (start .args .counts .now) 0 (c .before .loop .ch) (start .pre .1 .1 .0) (c .loop-test .taken))
 
 small : (c : tie.In-loop Inv-loop μ-loop) → c .before .loop .at ≤ 64 * 65
 small c =
     let start = entry (c .before) in
     let counts : List ℕ = start .args .counts .now in
-    omega (arith, c .before .loop .inv .begins, total-part counts (c .before .loop .ch), total-small 16 counts (start .pre .1 .1 .0), start .pre .1 .0 .3)
+    omega (arith, c .before .loop .inv .begins, total-part counts (c .before .loop .ch), total-small maxFilterLengthBlocks counts (start .pre .1 .1 .0), start .pre .1 .0 .3)
 
 fits : (c : tie.In-loop Inv-loop μ-loop) → c .before .loop .at + countIn c * 65 ≤ length (entry (c .before) .args .responses .now)
 fits c =

@@ -14,6 +14,7 @@ use Rattle.section_echoes.specs.Steps.{bands, withPowers}
 use Rattle.section_echoes.proofs.Sums.{response-begun, response-more}
 use Rattle.section_echoes.proofs.echoes.section_response.Statement.{statement}
 use Rattle.section_echoes.proofs.echoes.section_response.Tie as tie
+use Rattle.aec3_common.specs.Settings.{maxFilterLengthBlocks}
 
 abbrev Inv-loop : tie.InvT-loop
 Inv-loop responses from to sums₀ block₀ sums block = (from ≤ block) × (block - from ≤ to - from) × (sums ≡ bands (responseSum responses from (block - from)))
@@ -28,7 +29,7 @@ loop-holds c = (omega arith, omega arith, response-begun (c .before .args .respo
 within : (c : tie.In-loop Inv-loop μ-loop) → c .before .loop .block * 65 + 65 ≤ length (c .before .before .before .args .responses .now)
 within c = omega (arith, c .loop-test .taken, c .before .before .before .pre .0)
 
-below : (c : tie.In-loop Inv-loop μ-loop) → c .before .loop .block < 16
+below : (c : tie.In-loop Inv-loop μ-loop) → c .before .loop .block < maxFilterLengthBlocks
 below c = omega (arith, c .loop-test .taken, c .before .before .before .pre .1)
 
 add-powers-requires : tie.Need-add-powers-requires Inv-loop μ-loop

@@ -12,6 +12,7 @@ use Rattle.section_echoes.proofs.Sums.{render-begun, render-more}
 use Rattle.section_echoes.proofs.Walks.{position-at, position-fits}
 use Rattle.section_echoes.proofs.renders.section_render.Statement.{statement}
 use Rattle.section_echoes.proofs.renders.section_render.Tie as tie
+use Rattle.aec3_common.specs.Settings.{maxFilterLengthBlocks}
 
 abbrev Inv-loop : tie.InvT-loop
 Inv-loop ring spectra headroom positions share from to sums₀ block₀ sums block = (from ≤ block) × (block - from ≤ to - from) × (sums ≡ bands (renderSum ring spectra headroom from (block - from)))
@@ -23,7 +24,7 @@ loop-holds : tie.Need-loop-holds Inv-loop μ-loop
 unfolding tab
 loop-holds c = let a = c .before .args in (omega arith, omega arith, render-begun (a .ring) (a .spectra .now) (a .headroom) (a .from))
 
-below : (c : tie.In-loop Inv-loop μ-loop) → c .before .loop .block < 16
+below : (c : tie.In-loop Inv-loop μ-loop) → c .before .loop .block < maxFilterLengthBlocks
 below c = omega (arith, c .loop-test .taken, c .before .before .before .pre .1 .2)
 
 add-slot-requires : tie.Need-add-slot-requires Inv-loop μ-loop

@@ -9,17 +9,18 @@ use mir.Syntax.{w64}
 use mir.Val.{toZ}
 use mir.Facts.{toZ-ofZ}
 use Rattle.aec3_common.specs.Lists.{tab}
-use Rattle.spectrum_buffer.specs.Ring.{offsetPlace}
+use Rattle.spectrum_buffer.specs.Ring.{offsetPlace, maxSlots}
 use Rattle.section_echoes.specs.Walk.{walkedPlace}
 use Rattle.section_echoes.proofs.Walks.{Walking, walking-begun, walking-on, walking-more, walking-over, walked-first, walked-below, position-small}
 use Rattle.section_echoes.proofs.walk.walked_positions.Statement.{statement}
 use Rattle.section_echoes.proofs.walk.walked_positions.Tie as tie
+use Rattle.aec3_common.specs.Settings.{maxFilterLengthBlocks}
 
 abbrev Inv-loop : tie.InvT-loop
 Inv-loop ring headroom slot-length place₀ r₀ block₀ place r block = Walking ring headroom r₀ place r block
 
 abbrev μ-loop : tie.MeasureT-loop
-μ-loop ring headroom slot-length place₀ r₀ block₀ place r block = 16 - block
+μ-loop ring headroom slot-length place₀ r₀ block₀ place r block = maxFilterLengthBlocks - block
 
 -- the machine reads headroom as itself
 signed : (c : tie.Start Inv-loop μ-loop) → toZ w64 (c .args .headroom) ≡ pos (c .args .headroom)
@@ -38,7 +39,7 @@ begins c =
 -- a place that the walk takes has a small position
 small :
     (c : tie.Start Inv-loop μ-loop) (place block : ℕ)
-    → let a = c .args in place ≡ walkedPlace (a .ring .slots) (a .ring .position) (a .headroom) block → place * (a .ring .channels * 65) ≤ 32 * 130
+    → let a = c .args in place ≡ walkedPlace (a .ring .slots) (a .ring .position) (a .headroom) block → place * (a .ring .channels * 65) ≤ maxSlots * 130
 small c place block at =
     let a = c .args in
     position-small place (a .ring .slots) (a .ring .channels) (rw at (walked-below (a .ring .slots) (a .ring .position) (a .headroom) block (c .pre .0)))
