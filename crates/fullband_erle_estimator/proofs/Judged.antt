@@ -1,28 +1,26 @@
--- What the judging of a state tells, and that log2 is asked of positive numbers alone.
+-- What the judging of a state tells; the claim that log2 of the minimum is asked of a positive number.
 use mathlib.Core.Path.{_≡_}
 use mathlib.Core.Bool.{Bool, true, false, _&&_}
 use Prim.Native.Nat.{ℕ, _≤_, _<_}
 use native.Mathlib.Omega.{arith}
 use borrow.Author.Tests.{eqb-true}
 use lib.Dec.{T, eqb}
-use lib.IntN.{pos}
-use lib.Ieee.{Float, nan, inf, fin, binary32, ofBits, add, lt, le}
+use lib.Ieee.{Float, nan, inf, fin, ofBits, le}
 use lib.Ieee.Positive.{above, above-of-le}
 use lib.ListN.{length, take}
 use lib.Seq.{getD-take, length-take-le}
-use Rattle.aec3_common.specs.Binary32.{zero32, one32}
+use Rattle.aec3_common.specs.Binary32.{one32}
 use Rattle.aec3_common.specs.Lists.{every}
 use Rattle.aec3_common.specs.Refusal.{accepted}
 use Rattle.aec3_common.proofs.Calls.{limits-passed, some-channels, few-channels}
 use Rattle.aec3_common.proofs.Choices.{and-left, and-right, each-of-four}
 use Rattle.aec3_common.proofs.Every.{every-at}
 use Rattle.aec3_common.proofs.Rounding.{holds, Signed, infinite, finite}
-use Rattle.fullband_channel.specs.Instantaneous.{epsilon}
 use Rattle.fullband_channel.specs.Channel.{channelOk}
 use Rattle.fullband_channel.proofs.Judged.{epsilon-above}
-use Rattle.fullband_erle_estimator.specs.declared.settings.FullBandSettings.{FullBandSettings}
 use Rattle.fullband_erle_estimator.specs.declared.FullBandErleEstimator.{FullBandErleEstimator}
 use Rattle.fullband_erle_estimator.specs.FullBand.{settingsRefusal, stateOk, noChannel, channelAt}
+use Rattle.fullband_erle_estimator.specs.Positive.{MinimumIsPositive}
 
 -- ---- numbers above zero
 
@@ -37,17 +35,12 @@ above-signed (inf false) p = infinite
 above-signed (fin true m e) p = absurd p
 above-signed (fin false m e) p = finite m e
 
--- the minimum of settings that pass
-pub min-above : (s : FullBandSettings) → settingsRefusal s ≡ accepted → lt zero32 (add binary32 (s .min) epsilon) ≡ true
-unfolding settingsRefusal ofBits
-min-above s ok =
+-- the claim
+pub minimum-is-positive : MinimumIsPositive
+unfolding MinimumIsPositive settingsRefusal ofBits
+minimum-is-positive s ok =
     let limits = limits-passed (s .min) (s .«max_l») (s .«max_h») (s .«num_capture_channels») ok in
     epsilon-above (above-signed (s .min) (above-of-le one32 (s .min) tt (holds (first-of-five (le one32 (s .min)) _ _ _ _ limits))))
-
--- the minimum of a refused start's state, which is 0
-pub no-minimum-above : lt zero32 (add binary32 zero32 epsilon) ≡ true
-unfolding ofBits
-no-minimum-above = epsilon-above (finite 0 (pos 0))
 
 -- ---- a state
 

@@ -3,3 +3,4 @@ pub mod Constants
 pub mod Cases
 pub mod Runs
 pub mod Steps
+pub mod Positive

@@ -16,12 +16,9 @@ use settings::refused_settings;
 ghost use mathlib.Core.Path.{_≡_};
 ghost use mathlib.Core.Bool.{true, not};
 ghost use Prim.Native.Nat.{_≤_};
-ghost use lib.Ieee.{binary32, add, lt};
 ghost use lib.ListN.{take};
-ghost use Rattle.aec3_common.specs.Binary32.{zero32};
 ghost use Rattle.aec3_common.specs.Lists.{every};
 ghost use Rattle.aec3_common.specs.Refusal.{accepted};
-ghost use Rattle.fullband_channel.specs.Instantaneous.{epsilon};
 ghost use Rattle.fullband_channel.specs.Channel.{channelOk};
 ghost use Rattle.fullband_erle_estimator.specs.FullBand.{stateOk, started as FullBand·started, startAnswer, resetAnswer, updateAnswer, fullbandLog2, decibels as FullBand·decibels, log2Answer, decibelAnswer, qualityAnswer};
 ghost use Rattle.fullband_erle_estimator.specs.Runs.{NeverBadState, FiguresNotBelowMinimum};
@@ -55,7 +52,6 @@ pub struct QualityAnswer {
 
 // All four records as a reset fills them.
 fn started(settings: FullBandSettings) -> FullBandErleEstimator
-    requires { ⌜ lt zero32 (add binary32 (settings .min) epsilon) ≡ true ⌝ }
     ensures { λ r. ⌜ r ≡ FullBand·started settings ⌝ }
 {
     let channel = FullBandChannel::new(settings.min_erle_log2());

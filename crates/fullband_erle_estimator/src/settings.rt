@@ -1,12 +1,8 @@
 // The settings of the estimator, and what turns them away.
-use aec3_common::log2::log2_of_positive;
+use aec3_common::log2::approx_log2;
 use aec3_common::settings::limits_and_channels_refusal;
 use fullband_channel::instantaneous::EPSILON;
 ghost use mathlib.Core.Path.{_≡_};
-ghost use mathlib.Core.Bool.{true};
-ghost use lib.Ieee.{binary32, add, lt};
-ghost use Rattle.aec3_common.specs.Binary32.{zero32};
-ghost use Rattle.fullband_channel.specs.Instantaneous.{epsilon};
 ghost use Rattle.fullband_erle_estimator.specs.FullBand.{settingsRefusal, refusedSettings, minLog2};
 
 pub struct FullBandSettings {
@@ -42,9 +38,8 @@ impl FullBandSettings {
 
     // Log2 of (the minimum plus 0.001).
     pub fn min_erle_log2(self) -> f32
-        requires { ⌜ lt zero32 (add binary32 (self .min) epsilon) ≡ true ⌝ }
         ensures { λ r. ⌜ r ≡ minLog2 self ⌝ }
     {
-        log2_of_positive(self.min + EPSILON)
+        approx_log2(self.min + EPSILON)
     }
 }

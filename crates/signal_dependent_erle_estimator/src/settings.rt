@@ -47,7 +47,7 @@ impl SignalDependentSettings {
         )
     }
 
-    pub fn limits(self) -> ErleLimits
+    pub(crate) fn limits(self) -> ErleLimits
         ensures { λ r. ⌜ r ≡ (record { min = self .min; «max_l» = self .«max_l»; «max_h» = self .«max_h» }) ⌝ }
     {
         ErleLimits {

@@ -93,7 +93,7 @@ impl SubbandChannel {
     }
 
     // Nothing of the old record stays.
-    pub fn reset(self, min: f32) -> SubbandChannel
+    pub(crate) fn reset(self, min: f32) -> SubbandChannel
         ensures { λ r. ⌜ r ≡ fresh min ⌝ }
     {
         SubbandChannel::new(min)

@@ -37,7 +37,7 @@ impl SubbandSettings {
     }
 
     // How many channels' records number 20 looks at: none where the settings fail already.
-    pub fn judged_channels(self) -> usize
+    pub(crate) fn judged_channels(self) -> usize
         ensures { λ r. ⌜ r ≡ judgedChannels self ⌝ }
     {
         if self.refusal() == ACCEPTED {
@@ -48,7 +48,7 @@ impl SubbandSettings {
     }
 
     // The limits of the plain and the compensated stream.
-    pub fn limits(self) -> Limits
+    pub(crate) fn limits(self) -> Limits
         ensures { λ r. ⌜ r ≡ limitsOf self ⌝ }
     {
         Limits {
@@ -59,7 +59,7 @@ impl SubbandSettings {
     }
 
     // The limits of the uncapped stream.
-    pub fn uncapped_limits(self) -> Limits
+    pub(crate) fn uncapped_limits(self) -> Limits
         ensures { λ r. ⌜ r ≡ uncappedLimits self ⌝ }
     {
         Limits {

@@ -6,13 +6,13 @@ use mathlib.Core.Logic.{⊎-elim}
 use Prim.Native.Nat.{_+_, _-_, _*_, _≤_, _<_}
 use native.Mathlib.Omega.{arith}
 use lib.ListN.{length}
-use Rattle.aec3_common.specs.Binary32.{greatestValue, within}
-use Rattle.aec3_common.proofs.Bands.{part-length, part-every}
+use Rattle.aec3_common.proofs.Bands.{part-length}
 use Rattle.aec3_common.proofs.Calls.{UpdateOk, update-ok}
+use Rattle.fullband_channel.proofs.Judged.{few-points}
 use Rattle.aec3_common.proofs.Tables.{length-mapped, stored-none, stored-not-yet}
 use Rattle.fullband_erle_estimator.specs.declared.FullBandErleEstimator.{FullBandErleEstimator}
 use Rattle.fullband_erle_estimator.specs.FullBand.{stateOk, updateRefusal, updateAnswer}
-use Rattle.fullband_erle_estimator.proofs.Judged.{state-few, settings-passed, min-above, channel-passed}
+use Rattle.fullband_erle_estimator.proofs.Judged.{state-few, channel-passed}
 use Rattle.fullband_erle_estimator.proofs.Updates.{heard-channel, quiet-channel, Updating, updating-more, updating-all}
 use Rattle.fullband_erle_estimator.proofs.FullBandErleEstimator.update.Statement.{statement}
 use Rattle.fullband_erle_estimator.proofs.FullBandErleEstimator.update.Tie as tie
@@ -26,9 +26,6 @@ abbrev μ-loop : tie.MeasureT-loop
 
 four : (c : tie.Start Inv-loop μ-loop) → length (c .args .t1 .channels) ≡ 4
 four c = search (needs, length-mapped)
-
-call-refusal-requires : tie.Need-call-refusal-requires Inv-loop μ-loop
-call-refusal-requires c κs = λ ok. state-few _ (sym (c .ok .ensures) ∙ ok)
 
 -- the call is judged
 refused-by :
@@ -45,9 +42,6 @@ accepted-call :
     UpdateOk (stateOk (a .t1)) (a .t1 .settings .«num_capture_channels») (a .converged-filters .now) (a .x2 .now) (a .y2 .now) (a .e2 .now)
 unfolding updateRefusal
 accepted-call c = update-ok _ _ _ _ _ _ _ (sym (refused-by (c .before)) ∙ c .if1 .taken)
-
-min-erle-log2-requires : tie.Need-min-erle-log2-requires Inv-loop μ-loop
-min-erle-log2-requires c κs = min-above _ (settings-passed _ (accepted-call c .state))
 
 loop-holds : tie.Need-loop-holds Inv-loop μ-loop
 loop-holds c =
@@ -67,13 +61,6 @@ loop-holds c =
 shared-slice-read-if2 : tie.Need-shared-slice-read-if2 Inv-loop μ-loop
 shared-slice-read-if2 c = omega (arith, c .before .before .loop-test .taken, c .before .before .before .loop .inv .2 .ok .flags)
 
-part-requires : tie.Need-part-requires Inv-loop μ-loop
-part-requires c κs = omega (arith, c .before .before .before .loop-test .taken, c .before .before .before .before .loop .inv .2 .ok .longCapture)
-
-part-requires-2 : tie.Need-part-requires-2 Inv-loop μ-loop
-part-requires-2 c κs =
-    omega (arith, c .before .before .before .before .loop-test .taken, c .before .before .before .before .before .loop .inv .2 .ok .longResidual)
-
 update-requires : tie.Need-update-requires Inv-loop μ-loop
 update-requires c κs =
     let at = c .before .before .before .before .before .before in
@@ -83,10 +70,9 @@ update-requires c κs =
     let h = c .before .before .before .before .before .loop-test .taken in
     let captures : at .loop .ch * 65 + 65 ≤ length (a .y2 .now) = omega (arith, h, u .ok .longCapture) in
     let residuals : at .loop .ch * 65 + 65 ≤ length (a .e2 .now) = omega (arith, h, u .ok .longResidual) in (
-      rw (stored-not-yet (u .stored)) (channel-passed (a .t1) (u .ok .state) (at .loop .ch) (four start) h),
+      rw (stored-not-yet (u .stored)) (few-points _ (channel-passed (a .t1) (u .ok .state) (at .loop .ch) (four start) h)),
       ap length (c .before .part .ensures) ∙ part-length (a .y2 .now) (at .loop .ch) captures,
       ap length (c .part2 .ensures) ∙ part-length (a .e2 .now) (at .loop .ch) residuals,
-      rw (c .before .part .ensures) (part-every (within greatestValue) (a .y2 .now) (at .loop .ch) (u .ok .captureOk)),
     )
 
 loop-again : tie.Need-loop-again Inv-loop μ-loop
@@ -141,15 +127,15 @@ update-spec =
     Inv-loop
     μ-loop
     (λ c κs. search needs)
-    call-refusal-requires
-    min-erle-log2-requires
+    (λ c κs. search needs)
+    (λ c κs. search needs)
     (λ c κs. search needs)
     loop-holds
     (λ c. search needs)
     (λ c. search needs)
     shared-slice-read-if2
-    part-requires
-    part-requires-2
+    (λ c κs. search needs)
+    (λ c κs. search needs)
     update-requires
     (λ c. search needs)
     (λ c. search needs)

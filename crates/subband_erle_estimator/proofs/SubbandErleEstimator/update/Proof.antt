@@ -48,9 +48,6 @@ judged :
     → eqb (c .refusal .result) 0 && c .before .before .loop .ok ≡ stateOk (c .before .before .before .before .before .before .before .before .before .args .t1)
 judged c = walked-all (c .before .before .loop .inv) (c .before .loop-test .left) (c .refusal .ensures)
 
-call-refusal-requires : tie.Need-call-refusal-requires Inv-loop μ-loop Inv-loop2 μ-loop2
-call-refusal-requires c κs = λ ok. state-few (c .before .before .before .before .before .before .before .before .before .args .t1) (sym (judged c) ∙ ok)
-
 -- and the call
 refused-by :
     (c : tie.After-call-refusal Inv-loop μ-loop Inv-loop2 μ-loop2)
@@ -83,12 +80,6 @@ loop2-holds c =
 
 shared-slice-read-if2 : tie.Need-shared-slice-read-if2 Inv-loop μ-loop Inv-loop2 μ-loop2
 shared-slice-read-if2 c = omega (arith, c .before .before .loop2-test .taken, c .before .before .before .loop2 .inv .2 .ok .flags)
-
-part-requires : tie.Need-part-requires Inv-loop μ-loop Inv-loop2 μ-loop2
-part-requires c κs = omega (arith, c .before .before .before .loop2-test .taken, c .before .before .before .before .loop2 .inv .2 .ok .longCapture)
-
-part-requires-2 : tie.Need-part-requires-2 Inv-loop μ-loop Inv-loop2 μ-loop2
-part-requires-2 c κs = omega (arith, c .before .before .before .before .loop2-test .taken, c .before .before .before .before .before .loop2 .inv .2 .ok .longResidual)
 
 update-requires : tie.Need-update-requires Inv-loop μ-loop Inv-loop2 μ-loop2
 update-requires c κs =
@@ -158,13 +149,13 @@ update-spec =
     (λ c. search needs)
     loop-again
     (λ c κs. search needs)
-    call-refusal-requires
+    (λ c κs. search needs)
     loop2-holds
     (λ c. search needs)
     (λ c. search needs)
     shared-slice-read-if2
-    part-requires
-    part-requires-2
+    (λ c κs. search needs)
+    (λ c κs. search needs)
     update-requires
     (λ c. search needs)
     (λ c. search needs)

@@ -6,7 +6,7 @@ use Rattle.fullband_erle_estimator.proofs.settings.FullBandSettings.min
 
 returns : tie.Need-returns
 unfolding ofBits minLog2
-returns c = c .log2-of-positive .ensures
+returns c = c .approx-log2 .ensures
 
 pub min-erle-log2-spec : {M : Type 1} → statement M
 min-erle-log2-spec = tie.close (tie.spec (λ c κs. search needs) returns)
