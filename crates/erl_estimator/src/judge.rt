@@ -5,9 +5,9 @@ use aec3_common::refusal::BAD_LENGTH;
 use aec3_common::refusal::BAD_VALUE;
 use aec3_common::settings::capture_channels_ok;
 use aec3_common::settings::render_channels_ok;
+use aec3_common::spectra::are_spectra;
 use aec3_common::values_ok;
 ghost use mathlib.Core.Path.{_≡_};
-ghost use Prim.Native.Nat.{_≤_};
 ghost use Rattle.erl_estimator.specs.Erl.{channelsOk, lengthsOk, updateRefusal};
 
 fn channels_ok(captures: usize, renders: usize) -> bool
@@ -23,12 +23,11 @@ fn lengths_ok(
     render: &[f32],
     capture: &[f32],
 ) -> bool
-    requires { ⌜ (captures ≤ 4) × (renders ≤ 2) ⌝ }
     ensures { λ r. ⌜ r ≡ lengthsOk captures renders (now (converged .entry)) (now (render .entry)) (now (capture .entry)) ⌝ }
 {
     (converged.len() == captures)
-        & (render.len() == renders * 65)
-        & (capture.len() == captures * 65)
+        & are_spectra(render.len(), renders)
+        & are_spectra(capture.len(), captures)
 }
 
 // The first of 2, 5 and 6, or 0.

@@ -1,20 +1,8 @@
 use borrow.Author.Needs.{needs}
-use mathlib.Core.Path.{_≡_, _∙_, sym}
-use mathlib.Core.Bool.{true}
-use Prim.Native.Nat.{ℕ, _≤_}
-use Rattle.aec3_common.proofs.Choices.{and-left, and-right}
-use Rattle.aec3_common.proofs.Ranges.{to-hi}
-use Rattle.aec3_common.specs.Settings.{captureChannelsOk, renderChannelsOk, maxCaptureChannels, maxRenderChannels}
-use Rattle.erl_estimator.specs.Erl.{channelsOk, updateRefusal}
-use Rattle.erl_estimator.proofs.Judged.{few-captures, few-renders}
+use mathlib.Core.Path.{_∙_, sym}
+use Rattle.erl_estimator.specs.Erl.{updateRefusal}
 use Rattle.erl_estimator.proofs.judge.update_refusal.Statement.{statement}
 use Rattle.erl_estimator.proofs.judge.update_refusal.Tie as tie
-
-lengths-ok-requires : tie.Need-lengths-ok-requires
-lengths-ok-requires c κs =
-    let a = c .before .before .before .before .before .args in
-    let ok = sym (c .before .channels-ok .ensures) ∙ c .if1 .taken in
-    (few-captures (a .captures) (a .renders) ok, few-renders (a .captures) (a .renders) ok)
 
 returns : tie.Need-returns
 unfolding updateRefusal
@@ -55,7 +43,7 @@ update-refusal-spec =
     tie.close
     (tie.spec
     (λ c κs. search needs)
-    lengths-ok-requires
+    (λ c κs. search needs)
     (λ c κs. search needs)
     (λ c κs. search needs)
     returns

@@ -25,9 +25,6 @@ abbrev μ-loop : tie.MeasureT-loop
 within : (c : tie.Start Inv-loop μ-loop) (ch : ℕ) → ch < length (c .args .flags .now) → ch * 65 + 65 ≤ length (c .args .spectra .now)
 within c ch h = omega (arith, c .pre .1)
 
-part-requires : tie.Need-part-requires Inv-loop μ-loop
-part-requires c κs = within (c .before .before) (c .before .before .args .first) (c .before .before .pre .0 .0)
-
 copied-requires : tie.Need-copied-requires Inv-loop μ-loop
 copied-requires c κs =
     let a = c .before .before .before .args in
@@ -45,10 +42,6 @@ loop-holds c =
     rw begun
     (raised-none (a .spectra .now) (a .flags .now) (a .first) (start .pre .0 .0)
     (part-length (a .spectra .now) (a .first) (within start (a .first) (start .pre .0 .0))))
-
-part-requires-2 : tie.Need-part-requires-2 Inv-loop μ-loop
-part-requires-2 c κs =
-    within (c .before .before .before .before .before .before .before .before) (c .before .before .before .loop .ch) (c .before .before .loop-test .taken)
 
 raise-requires : tie.Need-raise-requires Inv-loop μ-loop
 raise-requires c κs =
@@ -75,12 +68,12 @@ reduced-from-spec =
     (tie.spec
     Inv-loop
     μ-loop
-    part-requires
+    (λ c κs. search needs)
     copied-requires
     add-ch
     loop-holds
     (λ c. search needs)
-    part-requires-2
+    (λ c κs. search needs)
     raise-requires
     (λ c. search needs)
     (λ c. search needs)
