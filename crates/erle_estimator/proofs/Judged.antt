@@ -17,14 +17,14 @@ use Rattle.aec3_common.proofs.Every.{Tested, tested-none, tested-more}
 use Rattle.aec3_common.proofs.Choices.{each-of-three, each-of-four, passed, later-passed, first-of-passed}
 use Rattle.section_echoes.specs.Walk.{slotLength}
 use Rattle.subband_erle_estimator.specs.Subband.{settingsRefusal as Subband·settingsRefusal, channelOk as Subband·channelOk, noChannel as Subband·noChannel, stateOk as Subband·stateOk}
-use Rattle.signal_dependent_erle_estimator.specs.SignalDependent.{settingsRefusal as SignalDependent·settingsRefusal, boundariesOf, sameFirst, channelOk as SignalDependent·channelOk, noChannel as SignalDependent·noChannel, stateOk as SignalDependent·stateOk, allLengthsOk, allValuesOk, responsesOk, ringRefusal, refusalOf, updateRefusal as SignalDependent·updateRefusal}
+use Rattle.signal_dependent_erle_estimator.specs.SignalDependent.{settingsRefusal as SignalDependent·settingsRefusal, boundariesOf, settingsPass, sameFirst, channelOk as SignalDependent·channelOk, noChannel as SignalDependent·noChannel, stateOk as SignalDependent·stateOk, allLengthsOk, allValuesOk, responsesOk, ringRefusal, refusalOf, updateRefusal as SignalDependent·updateRefusal}
 use Rattle.signal_dependent_erle_estimator.specs.Steps.{Passed}
 use Rattle.signal_dependent_erle_estimator.proofs.Judged.{few-captures, eight-sections, update-passed}
 use Rattle.fullband_channel.specs.Channel.{channelOk as FullBand·channelOk}
 use Rattle.fullband_erle_estimator.specs.FullBand.{settingsRefusal as FullBand·settingsRefusal, noChannel as FullBand·noChannel, stateOk as FullBand·stateOk}
 use Rattle.erle_estimator.specs.declared.ErleEstimator.{ErleEstimator}
 use Rattle.erle_estimator.specs.Parts.{subbandSettings, signalSettings, fullbandSettings, subbandPart, signalPart, fullbandPart}
-use Rattle.erle_estimator.specs.Steps.{judgedChannels, settingsPass}
+use Rattle.erle_estimator.specs.Steps.{judgedChannels}
 use Rattle.erle_estimator.specs.Erle.{Update, stateOk, lentLengthsOk, lentValuesOk, updateRefusal}
 
 -- ---- settings
@@ -43,6 +43,11 @@ module _ (g : ErleSettings) (ok : settingsRefusal g ≡ accepted) where
   unfolding settingsRefusal FullBand·settingsRefusal
   fullband-settings-passed =
       first-passed (g .min) (g .«max_l») (g .«max_h») (g .«num_capture_channels») (g .«num_sections») (g .«filter_length_blocks») (g .«delay_headroom_samples») ok
+
+-- the whole estimator and the signal-dependent part judge the same settings
+signal-settings-same : (g : ErleSettings) → SignalDependent·settingsRefusal (signalSettings g) ≡ settingsRefusal g
+unfolding SignalDependent·settingsRefusal settingsRefusal
+signal-settings-same g = refl
 
 -- ---- a state
 
@@ -105,9 +110,11 @@ module _ {s : ErleEstimator} {end ch : ℕ} {a b c : Bool} (w : Walked s end ch 
       }
 
   -- the settings and the boundaries, and the records that were looked at, make number 20
-  pub walked-all : {pass : Bool} → end ≤ ch → pass ≡ settingsPass (s .settings) (s .«section_boundaries_blocks») → pass && (a && b && c) ≡ stateOk s
-  unfolding stateOk Subband·stateOk SignalDependent·stateOk FullBand·stateOk settingsPass judgedChannels
-  walked-all {pass} over e = ap (λ (t : Bool). t && (a && b && c)) e ∙ go (eqb (settingsRefusal (s .settings)) accepted) refl
+  pub walked-all : {pass : Bool} → end ≤ ch → pass ≡ settingsPass (signalSettings (s .settings)) (s .«section_boundaries_blocks») → pass && (a && b && c) ≡ stateOk s
+  unfolding stateOk Subband·stateOk SignalDependent·stateOk FullBand·stateOk judgedChannels
+  walked-all {pass} over e =
+      ap (λ (t : Bool). t && (a && b && c)) (rw (signal-settings-same (s .settings)) at e)
+      ∙ go (eqb (settingsRefusal (s .settings)) accepted) refl
     where
       last : (t : Bool) → eqb (settingsRefusal (s .settings)) accepted ≡ t → ch ≡ cond t (s .settings .«num_capture_channels») 0
       last t ok =

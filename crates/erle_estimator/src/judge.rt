@@ -2,10 +2,10 @@
 use crate::parts::signal_settings;
 use aec3_common::refusal::ACCEPTED;
 use aec3_common::settings::ErleSettings;
-use signal_dependent_erle_estimator::boundaries_of;
-use signal_dependent_erle_estimator::same_first;
 ghost use mathlib.Core.Path.{_≡_};
-ghost use Rattle.erle_estimator.specs.Steps.{judgedChannels, settingsPass};
+ghost use Rattle.signal_dependent_erle_estimator.specs.SignalDependent.{settingsPass};
+ghost use Rattle.erle_estimator.specs.Parts.{signalSettings};
+ghost use Rattle.erle_estimator.specs.Steps.{judgedChannels};
 
 // The channels whose records number 20 looks at: none where the settings break 1, 2 or 3.
 pub fn judged_channels(settings: ErleSettings) -> usize
@@ -20,12 +20,7 @@ pub fn judged_channels(settings: ErleSettings) -> usize
 
 // Whether the settings break none of 1, 2 and 3, and the boundaries are those that they give.
 pub fn settings_pass(settings: ErleSettings, held: &[usize; 9]) -> bool
-    ensures { λ r. ⌜ r ≡ settingsPass settings (now (held .entry)) ⌝ }
+    ensures { λ r. ⌜ r ≡ settingsPass (signalSettings settings) (now (held .entry)) ⌝ }
 {
-    if settings.refusal() == ACCEPTED {
-        let given = boundaries_of(signal_settings(settings));
-        same_first(settings.num_sections + 1, held, &given)
-    } else {
-        false
-    }
+    signal_dependent_erle_estimator::settings_pass(signal_settings(settings), held)
 }

@@ -35,11 +35,7 @@ pub use streams::ErleStreams;
 pub use streams::erle_streams;
 use subband_erle_estimator::SubbandChannel;
 ghost use mathlib.Core.Path.{_≡_};
-ghost use mathlib.Core.Bool.{true};
-ghost use lib.Ieee.{binary32, add, lt};
-ghost use Rattle.aec3_common.specs.Binary32.{zero32};
 ghost use Rattle.aec3_common.specs.Refusal.{accepted};
-ghost use Rattle.fullband_channel.specs.Instantaneous.{epsilon};
 ghost use Rattle.erle_estimator.specs.Parts.{fullbandPart};
 ghost use Rattle.erle_estimator.specs.Erle.{Update, stateOk, startedWith, startAnswer, blocksKept, resetAnswer, updateAnswer, log2Answer, decibelAnswer, qualityAnswer};
 ghost use Rattle.erle_estimator.specs.Runs.{NeverBadState};
@@ -64,7 +60,6 @@ pub struct ErleAnswer {
 
 // Every part as a start leaves it, with a block count.
 fn started_with(startup: u32, blocks: u32, settings: ErleSettings) -> ErleEstimator
-    requires { ⌜ lt zero32 (add binary32 (settings .min) epsilon) ≡ true ⌝ }
     ensures { λ r. ⌜ r ≡ startedWith startup blocks settings ⌝ }
 {
     let subband_channel = SubbandChannel::new(settings.min);

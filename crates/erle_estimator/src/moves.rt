@@ -13,7 +13,6 @@ ghost use mathlib.Core.Bool.{true, cond};
 ghost use Prim.Native.Nat.{_*_, _≤_, _<_};
 ghost use lib.Dec.{leb, ltb};
 ghost use lib.ListN.{length};
-ghost use Rattle.aec3_common.specs.Binary32.{valuesOk};
 ghost use Rattle.aec3_common.specs.Lists.{every};
 ghost use Rattle.aec3_common.specs.Settings.{headroomBlocks, maxFilterLengthBlocks};
 ghost use Rattle.aec3_common.specs.Spectra.{sum};
@@ -22,7 +21,7 @@ ghost use Rattle.section_echoes.specs.Steps.{RingFits, allActive};
 ghost use Rattle.correction_factors.specs.Factors.{subbandSums};
 ghost use Rattle.subband_erle_estimator.specs.Channel.{Block, channelAfter as Subband·channelAfter};
 ghost use Rattle.signal_dependent_erle_estimator.specs.Channel.{Lent, channelAfter as SignalDependent·channelAfter};
-ghost use Rattle.fullband_channel.specs.Channel.{channelOk as FullBand·channelOk, withPoint, oneBlockLess};
+ghost use Rattle.fullband_channel.specs.Channel.{withPoint, oneBlockLess};
 
 // A converged channel learns and decays, another one only decays.
 pub fn subband_channel(
@@ -52,7 +51,7 @@ pub fn fullband_channel(
     y2: &[f32],
     e2: &[f32],
 ) -> FullBandChannel
-    requires { ⌜ (FullBand·channelOk c ≡ true) × (length (now y2) ≡ 65) × (length (now e2) ≡ 65) × (valuesOk (now y2) ≡ true) ⌝ }
+    requires { ⌜ (c .«instantaneous_erle» .«num_points» ≤ 5) × (length (now y2) ≡ 65) × (length (now e2) ≡ 65) ⌝ }
     ensures { λ r. ⌜ r ≡ cond heard (oneBlockLess (withPoint «min_erle_log2» (sum (now (y2 .entry))) (sum (now (e2 .entry))) c)) (oneBlockLess c) ⌝ }
 {
     if heard {

@@ -8,9 +8,6 @@ use Rattle.erle_estimator.specs.Erle.{startedWith}
 use Rattle.erle_estimator.proofs.started_with.Statement.{statement}
 use Rattle.erle_estimator.proofs.started_with.Tie as tie
 
-min-erle-log2-requires : tie.Need-min-erle-log2-requires
-min-erle-log2-requires c κs = rw (c .fullband-settings .ensures) (c .before .before .before .pre)
-
 returns : tie.Need-returns
 unfolding startedWith Subband·started SignalDependent·started FullBand·started tab
 returns c =
@@ -31,7 +28,7 @@ started-with-spec =
     (λ c κs. search needs)
     (λ c κs. search needs)
     (λ c κs. search needs)
-    min-erle-log2-requires
+    (λ c κs. search needs)
     (λ c κs. search needs)
     (λ c κs. search needs)
     (λ c κs. search needs)

@@ -1,17 +1,8 @@
 use borrow.Author.Needs.{needs}
 use mathlib.Core.Path.{_∙_, sym}
-use Rattle.fullband_erle_estimator.proofs.Judged.{min-above, settings-passed}
-use Rattle.erle_estimator.specs.Parts.{fullbandSettings, fullbandPart}
 use Rattle.erle_estimator.specs.Erle.{stateRefusal, resetAnswer}
-use Rattle.erle_estimator.proofs.Judged.{fullband-passed}
 use Rattle.erle_estimator.proofs.ErleEstimator.reset.Statement.{statement}
 use Rattle.erle_estimator.proofs.ErleEstimator.reset.Tie as tie
-
-started-with-requires : tie.Need-started-with-requires
-started-with-requires c κs =
-    let s = c .before .before .before .args .self in
-    let ok = sym (c .before .before .ok .ensures) ∙ c .before .if1 .taken in
-    min-above (fullbandSettings (s .settings)) (settings-passed (fullbandPart s) (fullband-passed s ok))
 
 returns : tie.Need-returns
 unfolding resetAnswer stateRefusal
@@ -23,4 +14,4 @@ unfolding resetAnswer stateRefusal
 returns-2 c = simp (sym (c .before .ok .ensures) ∙ c .if1 .left)
 
 pub reset-spec : {M : Type 1} → statement M
-reset-spec = tie.close (tie.spec (λ c κs. search needs) (λ c κs. search needs) started-with-requires returns returns-2)
+reset-spec = tie.close (tie.spec (λ c κs. search needs) (λ c κs. search needs) (λ c κs. search needs) returns returns-2)

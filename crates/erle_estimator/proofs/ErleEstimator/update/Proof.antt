@@ -6,17 +6,17 @@ use mathlib.Core.Bool.{_&&_}
 use Prim.Native.Nat.{ℕ, _-_, _≤_, _<_}
 use native.Mathlib.Omega.{arith}
 use lib.ListN.{length}
-use Rattle.aec3_common.specs.Binary32.{greatestValue, within}
 use Rattle.aec3_common.specs.Settings.{headroomBlocks}
 use Rattle.aec3_common.specs.Spectra.{part}
-use Rattle.aec3_common.proofs.Bands.{part-length, part-every}
+use Rattle.aec3_common.proofs.Bands.{part-length}
 use Rattle.aec3_common.proofs.Tables.{length-mapped, stored-not-yet}
 use Rattle.section_echoes.specs.Steps.{allActive}
 use Rattle.subband_erle_estimator.proofs.Judged.{points-few}
-use Rattle.signal_dependent_erle_estimator.proofs.Judged.{settings-passed, one-section, eight-sections, headroom-inside}
+use Rattle.signal_dependent_erle_estimator.proofs.Judged.{one-section, eight-sections, headroom-inside}
 use Rattle.signal_dependent_erle_estimator.proofs.Updates.{active-at, active-within}
 use Rattle.fullband_erle_estimator.specs.FullBand.{minLog2}
-use Rattle.fullband_erle_estimator.proofs.Judged.{min-above, settings-passed as FullBand·settings-passed, channel-passed}
+use Rattle.fullband_channel.proofs.Judged.{few-points}
+use Rattle.fullband_erle_estimator.proofs.Judged.{channel-passed}
 use Rattle.erle_estimator.specs.declared.ErleEstimator.{ErleEstimator}
 use Rattle.erle_estimator.specs.Parts.{signalSettings, fullbandSettings, subbandPart, signalPart, fullbandPart, withRecords}
 use Rattle.erle_estimator.specs.Erle.{Update, stateOk, updateRefusal, counted, afterAccepted, updateAnswer}
@@ -83,11 +83,6 @@ judged :
     c .settings-pass .result && (l .subband-ok && l .signal-ok && l .fullband-ok) ≡ stateOk (c .before .before .before .before .before .before .before .before .before .before .before .before .before .before .before .args .t1)
 judged c = walked-all (c .before .before .before .loop .inv) (c .before .before .loop-test .left) (c .settings-pass .ensures)
 
-update-refusal-requires : tie.Need-update-refusal-requires Inv-loop μ-loop Inv-loop2 μ-loop2
-update-refusal-requires c κs = λ ok.
-    let s = c .before .before .before .before .before .before .before .before .before .before .before .before .before .before .before .args .t1 in
-    rw (c .before .before .before .before .before .signal-settings .ensures) (settings-passed (signalPart s) (signal-passed s (sym (judged c) ∙ ok)))
-
 -- and the call
 refused-by :
     (c : tie.After-update-refusal Inv-loop μ-loop Inv-loop2 μ-loop2)
@@ -118,13 +113,6 @@ active-sections-requires c κs =
 render-subbands-requires : tie.Need-render-subbands-requires Inv-loop μ-loop Inv-loop2 μ-loop2
 render-subbands-requires c κs = accepted-at (c .before .before .before .before .before .before) .lent .render
 
-min-erle-log2-requires : tie.Need-min-erle-log2-requires Inv-loop μ-loop Inv-loop2 μ-loop2
-min-erle-log2-requires c κs =
-    let s = c .before .before .before .before .before .before .before .before .before .before .before .before .before .before .before .before .before .before .before .before .before .before .before .before .before .args .t1 in
-    let a = accepted-at (c .before .before .before .before .before .before .before .before) in
-    rw (c .before .before .before .before .fullband-settings .ensures)
-    (min-above (fullbandSettings (s .settings)) (FullBand·settings-passed (fullbandPart s) (fullband-passed s (a .state))))
-
 -- the active sections that are found
 found :
     (c : tie.After-active-sections Inv-loop μ-loop Inv-loop2 μ-loop2)
@@ -152,12 +140,6 @@ below c = omega (arith, inside c, lent c .few)
 
 shared-slice-read-converged : tie.Need-shared-slice-read-converged Inv-loop μ-loop Inv-loop2 μ-loop2
 shared-slice-read-converged c = omega (arith, c .before .loop2-test .taken, lent (c .before) .lent .flags)
-
-part-requires : tie.Need-part-requires Inv-loop μ-loop Inv-loop2 μ-loop2
-part-requires c κs = omega (arith, c .before .loop2-test .taken, lent (c .before) .lent .capture)
-
-part-requires-2 : tie.Need-part-requires-2 Inv-loop μ-loop Inv-loop2 μ-loop2
-part-requires-2 c κs = omega (arith, c .before .before .loop2-test .taken, lent (c .before .before) .lent .residual)
 
 -- a channel's captures and residuals
 own : (c : tie.After-part2 Inv-loop μ-loop Inv-loop2 μ-loop2) → (length (c .before .part .result .now) ≡ 65) × (length (c .part2 .result .now) ≡ 65)
@@ -228,10 +210,9 @@ fullband-channel-requires c κs =
     let ch : ℕ = c .before .before .before .before .before .before .before .before .before .before .before .before .before .before .before .loop2 .ch in
     let (long-capture, long-residual) = own (c .before .before .before .before .before .before .before .before .before .before .before) in (
       rw (stored-not-yet (c .before .before .before .before .before .before .before .before .before .before .before .before .before .before .before .loop2 .inv .1 .fullband))
-          (channel-passed (fullbandPart s) (fullband-passed s (a .state)) ch (four (c .before .before .before .before .before .before .before .before .before .before .before .before .before .before .before .before .before .before .before .before .before .before .before .before .before .before .before .before .before .before .before .before .before .before .before .before .before .before .before .before .before .before) .2) (inside (c .before .before .before .before .before .before .before .before .before .before .before .before .before .before))),
+          (few-points _ (channel-passed (fullbandPart s) (fullband-passed s (a .state)) ch (four (c .before .before .before .before .before .before .before .before .before .before .before .before .before .before .before .before .before .before .before .before .before .before .before .before .before .before .before .before .before .before .before .before .before .before .before .before .before .before .before .before .before .before) .2) (inside (c .before .before .before .before .before .before .before .before .before .before .before .before .before .before)))),
       long-capture,
       long-residual,
-      rw (c .before .before .before .before .before .before .before .before .before .before .before .before .part .ensures) (part-every (within greatestValue) _ ch (a .captureOk)),
     )
 
 loop2-again : tie.Need-loop2-again Inv-loop μ-loop Inv-loop2 μ-loop2
@@ -303,18 +284,18 @@ update-spec =
     (λ c. omega (arith, c .before .before .before .before .before .before .before .loop-test .taken))
     loop-again
     (λ c κs. search needs)
-    update-refusal-requires
+    (λ c κs. search needs)
     (λ c κs. search needs)
     (λ c κs. search needs)
     (λ c κs. search needs)
     active-sections-requires
     render-subbands-requires
     (λ c κs. search needs)
-    min-erle-log2-requires
+    (λ c κs. search needs)
     loop2-holds
     shared-slice-read-converged
-    part-requires
-    part-requires-2
+    (λ c κs. search needs)
+    (λ c κs. search needs)
     (λ c. record { fits = omega (arith, below (c .before .before .before)) })
     (λ c. below (c .before .before .before))
     subband-channel-requires
