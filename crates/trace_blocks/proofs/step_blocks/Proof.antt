@@ -15,7 +15,7 @@ use Rattle.aec3_common.specs.Calls.{valuesInRange}
 use Rattle.aec3_common.specs.Counts.{oneMore}
 use Rattle.aec3_common.specs.Lists.{tab}
 use Rattle.aec3_common.specs.Spectra.{part}
-use Rattle.aec3_common.proofs.Bands.{part-length, part-every}
+use Rattle.aec3_common.proofs.Bands.{part-length}
 use Rattle.aec3_common.proofs.Choices.{each-of-three}
 use Rattle.aec3_common.proofs.Tables.{length-mapped, stored-not-yet}
 use Rattle.encoding.specs.Text.{laid}
@@ -23,7 +23,8 @@ use Rattle.encoding.proofs.Writing.{wrote-long}
 use Rattle.subband_erle_estimator.specs.declared.channel.SubbandChannel.{SubbandChannel}
 use Rattle.subband_erle_estimator.proofs.Judged.{points-few}
 use Rattle.fullband_erle_estimator.specs.FullBand.{minLog2}
-use Rattle.fullband_erle_estimator.proofs.Judged.{min-above, settings-passed as FullBand·settings-passed, channel-passed}
+use Rattle.fullband_channel.proofs.Judged.{few-points}
+use Rattle.fullband_erle_estimator.proofs.Judged.{channel-passed}
 use Rattle.erle_estimator.specs.declared.ErleEstimator.{ErleEstimator}
 use Rattle.erle_estimator.specs.Parts.{fullbandSettings, subbandPart, fullbandPart, withRecords}
 use Rattle.erle_estimator.specs.Erle.{Update, stateOk, counted, updated}
@@ -137,11 +138,6 @@ values c =
     let t = tables (c .before .before .before .before .before .before .before .before .before) in
     rw (← t .render, ← t .capture, ← t .residual) (sym (c .before .all-values-ok .ensures) ∙ not-false _ (c .if2 .left))
 
-min-erle-log2-requires : tie.Need-min-erle-log2-requires Inv-loop2 μ-loop2 Inv-loop μ-loop
-min-erle-log2-requires c κs =
-    let e = before (c .before .before .before .before .before .before .before .before .before .before .before .before .before) .estimator in
-    rw (c .fullband-settings .ensures) (min-above (fullbandSettings (e .settings)) (FullBand·settings-passed (fullbandPart e) (fullband-passed e (passes (c .before .before .before .before .before .before .before .before .before .before .before .before .before)))))
-
 -- ---- the channels
 
 loop2-holds : tie.Need-loop2-holds Inv-loop2 μ-loop2 Inv-loop μ-loop
@@ -175,20 +171,6 @@ unfolding updateIn
 flag c =
     let t = tables (c .before .before .before .before .before .before .before .before .before .before .before .before .before .before .before .before .before .before .before) in
     sym (getD-take (channelsOf (before (c .before .before .before .before .before .before .before .before .before .before .before .before .before .before .before .before .before .before .before .before .before) .estimator)) _ (c .before .loop2 .ch) false (inside c)) ∙ ap (λ (l : List Bool). getD l (c .before .loop2 .ch) false) (t .flags)
-
--- the channel lies in what is lent
-lent-part :
-    (c : tie.In-loop2 Inv-loop2 μ-loop2 Inv-loop μ-loop)
-    → let n = channelsOf (before (c .before .before .before .before .before .before .before .before .before .before .before .before .before .before .before .before .before .before .before .before .before) .estimator) in
-    let b = c .before .before .before .before .before .before .before .before .before .before .before .before .before .before .before .before .before .before .before .block-in .result in
-    (c .before .loop2 .ch * 65 + 65 ≤ length (take (n * 65) (b .y2))) × (c .before .loop2 .ch * 65 + 65 ≤ length (take (n * 65) (b .e2)))
-lent-part c =
-    let n = channelsOf (before (c .before .before .before .before .before .before .before .before .before .before .before .before .before .before .before .before .before .before .before .before .before) .estimator) in
-    let r = recordIn (rest (c .before .before .before .before .before .before .before .before .before .before .before .before .before .before .before .before .before .before .before .before .before)) in
-    let t = tables (c .before .before .before .before .before .before .before .before .before .before .before .before .before .before .before .before .before .before .before) in (
-      omega (arith, inside c, ap length (t .capture), length-capture n r),
-      omega (arith, inside c, ap length (t .residual), length-residual n r),
-    )
 
 -- a channel's captures and residuals
 own :
@@ -233,14 +215,10 @@ fullband-channel-requires : tie.Need-fullband-channel-requires Inv-loop2 μ-loop
 unfolding updateIn
 fullband-channel-requires c κs =
     let e = before (c .before .before .before .before .before .before .before .before .before .before .before .before .before .before .before .before .before .before .before .before .before .before .before .before .before .before .before .before .before) .estimator in
-    let n = channelsOf e in
-    let r = recordIn (rest (c .before .before .before .before .before .before .before .before .before .before .before .before .before .before .before .before .before .before .before .before .before .before .before .before .before .before .before .before .before)) in
-    let ch : ℕ = c .before .before .before .before .before .before .before .before .before .loop2 .ch in
-    let ok = each-of-three (valuesOk (renderIn n r)) (valuesOk (captureIn n r)) (valuesOk (residualIn n r)) (values (c .before .before .before .before .before .before .before .before .before .before .before .before .before .before .before .before .before .before)) in (
-      rw (stored-not-yet (c .before .before .before .before .before .before .before .before .before .loop2 .inv .0 .fullband)) (channel-passed (fullbandPart e) (fullband-passed e (passes (c .before .before .before .before .before .before .before .before .before .before .before .before .before .before .before .before .before .before .before .before .before .before .before .before .before .before .before .before .before))) ch (c .before .before .before .before .before .before .before .before .before .before .before .before .before .before .before .before .before .before .before .before .before .before .before .before .before .before .before .before .before .before .before .before .before .before .before .loop .inv .5) (inside (c .before .before .before .before .before .before .before .before))),
+    let ch : ℕ = c .before .before .before .before .before .before .before .before .before .loop2 .ch in (
+      rw (stored-not-yet (c .before .before .before .before .before .before .before .before .before .loop2 .inv .0 .fullband)) (few-points _ (channel-passed (fullbandPart e) (fullband-passed e (passes (c .before .before .before .before .before .before .before .before .before .before .before .before .before .before .before .before .before .before .before .before .before .before .before .before .before .before .before .before .before))) ch (c .before .before .before .before .before .before .before .before .before .before .before .before .before .before .before .before .before .before .before .before .before .before .before .before .before .before .before .before .before .before .before .before .before .before .before .loop .inv .5) (inside (c .before .before .before .before .before .before .before .before)))),
       own-long (c .before .before .before .before) .0,
       own-long (c .before .before .before .before) .1,
-      rw (own (c .before .before .before .before) .0) (part-every (within greatestValue) (captureIn n r) ch (ok .1)),
     )
 
 fullband-is : (c : tie.After-fullband-channel Inv-loop2 μ-loop2 Inv-loop μ-loop) → c .fullband-channel .result ≡ fullbandAt (from (c .before .before .before .before .before .before .before .before .before .before)) (update (c .before .before .before .before .before .before .before .before .before .before .before .before .before .before .before .before .before .before .before .before .before .before .before .before .before .before .before .before .before .before)) (c .before .before .before .before .before .before .before .before .before .before .loop2 .ch)
@@ -392,7 +370,7 @@ step-blocks-spec =
     (λ c κs. search needs)
     (λ c κs. search needs)
     (λ c κs. search needs)
-    min-erle-log2-requires
+    (λ c κs. search needs)
     (λ c. omega (arith, few (c .before .before .before .before .before .before .before .before .before .before .before .before .before .before), tables (c .before .before .before .before .before .before .before .before .before .before .before .before) .roomFlags))
     (λ c. sym (length-take-le _ _ (omega (arith, few (c .before .before .before .before .before .before .before .before .before .before .before .before .before .before .before), tables (c .before .before .before .before .before .before .before .before .before .before .before .before .before) .roomFlags))))
     (λ c. sym (render-long (c .before .before .before .before .before .before .before .before .before .before .before .before .before .before)))
@@ -403,10 +381,10 @@ step-blocks-spec =
     (λ c. below c)
     (λ c. omega (arith, few (c .before .before .before .before .before .before .before .before .before .before .before .before .before .before .before .before .before .before .before .before .before), tables (c .before .before .before .before .before .before .before .before .before .before .before .before .before .before .before .before .before .before .before) .roomCapture))
     (λ c. sym (length-take-le _ _ (omega (arith, few (c .before .before .before .before .before .before .before .before .before .before .before .before .before .before .before .before .before .before .before .before .before .before), tables (c .before .before .before .before .before .before .before .before .before .before .before .before .before .before .before .before .before .before .before .before) .roomCapture))))
-    (λ c κs. lent-part (c .before) .0)
+    (λ c κs. search needs)
     (λ c. omega (arith, few (c .before .before .before .before .before .before .before .before .before .before .before .before .before .before .before .before .before .before .before .before .before .before .before), tables (c .before .before .before .before .before .before .before .before .before .before .before .before .before .before .before .before .before .before .before .before .before) .roomResidual))
     (λ c. sym (length-take-le _ _ (omega (arith, few (c .before .before .before .before .before .before .before .before .before .before .before .before .before .before .before .before .before .before .before .before .before .before .before .before), tables (c .before .before .before .before .before .before .before .before .before .before .before .before .before .before .before .before .before .before .before .before .before .before) .roomResidual))))
-    (λ c κs. lent-part (c .before .before .before) .1)
+    (λ c κs. search needs)
     (λ c. record { fits = omega (arith, below (c .before .before .before .before)) })
     (λ c. below (c .before .before .before .before))
     (λ c. sym (render-long (c .before .before .before .before .before .before .before .before .before .before .before .before .before .before .before .before .before .before .before .before .before .before .before .before .before)))
