@@ -29,7 +29,7 @@ fn learns(threshold: f32, render: f32, capture: f32, erl: f32) -> bool
 }
 
 // The ERL moved towards a new one below it.
-pub fn moved_down(erl: f32, new: f32) -> f32
+pub(crate) fn moved_down(erl: f32, new: f32) -> f32
     ensures { λ r. ⌜ r ≡ learntErl true new erl ⌝ }
 {
     larger(moved(erl, new, 0.1), MIN_ERL)
@@ -48,7 +48,7 @@ fn learnt(threshold: f32, render: f32, capture: f32, f: Figure) -> Figure
     }
 }
 
-pub fn doubled(hold: i32, erl: f32) -> f32
+pub(crate) fn doubled(hold: i32, erl: f32) -> f32
     ensures { λ r. ⌜ r ≡ Figure·doubled hold erl ⌝ }
 {
     if hold <= 0 {

@@ -1,5 +1,5 @@
 // The bands of the subband estimator: the rules of one band, and the loops that apply them to a table of 65.
-pub mod band;
+mod band;
 pub mod onsets;
 pub mod streams;
 pub mod sums;
