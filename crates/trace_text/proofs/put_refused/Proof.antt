@@ -3,7 +3,7 @@ use mathlib.Core.Path.{refl}
 use mathlib.Core.List.{[], _∷_, append-assoc}
 use native.Mathlib.Omega.{arith}
 use borrow.Author.Needs.{needs}
-use Rattle.encoding.specs.Text.{decimal}
+use Rattle.encoding.specs.Text.{ascii, decimal}
 use Rattle.encoding.proofs.Digits.{length-decimal}
 use Rattle.trace_text.specs.Text.{Item, refused, spaced, lineOf, line}
 use Rattle.trace_text.proofs.Table.{Begun, begun-none, begun-more, begun-front, begun-within, begun-taken}
@@ -24,9 +24,9 @@ made c =
     let between = second .before .before .before in
     let first = between .before .before .before .before in
     let front = first .before .before .before in
-    let one = begun-more 8 (114 ∷ 101 ∷ 102 ∷ 117 ∷ 115 ∷ 101 ∷ 100 ∷ 32 ∷ []) (begun-none _ refl) (omega arith) (omega arith) (front .put-bytes .ensures) in
+    let one = begun-more 8 (ascii "refused ") (begun-none _ refl) (omega arith) (omega arith) (front .put-bytes .ensures) in
     let two = begun-more 10 (decimal (start c .args .number)) one (length-decimal _) (omega arith) (first .put-decimal .ensures) in
-    let three = begun-more 4 (32 ∷ 97 ∷ 116 ∷ 32 ∷ []) two (omega arith) (omega arith) (between .put-bytes2 .ensures) in
+    let three = begun-more 4 (ascii " at ") two (omega arith) (omega arith) (between .put-bytes2 .ensures) in
     let four = begun-more 10 (decimal (start c .args .record-number)) three (length-decimal _) (omega arith) (second .put-decimal2 .ensures) in
     let all = begun-more 17 (10 ∷ []) four (omega arith) (omega arith) (c .put-bytes3 .ensures) in
     simp append-assoc (simp append-assoc at all)
