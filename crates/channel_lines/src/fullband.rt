@@ -26,7 +26,7 @@ fn put_turned_away(out: &mut [u8], at: usize, refused: u32) -> usize {
 }
 
 // One more field: a figure over all bands and channels.
-pub fn put_reading(out: &mut [u8], at: usize, figure: FullBandFigure) -> usize {
+fn put_reading(out: &mut [u8], at: usize, figure: FullBandFigure) -> usize {
     match figure {
         FullBandFigure::Value(value) => put_figure(out, at, value),
         FullBandFigure::Refused(refused) => put_turned_away(out, at, refused),
@@ -34,13 +34,62 @@ pub fn put_reading(out: &mut [u8], at: usize, figure: FullBandFigure) -> usize {
 }
 
 // One more field: the quality of a channel.
-pub fn put_quality(out: &mut [u8], at: usize, answer: QualityAnswer) -> usize {
+fn put_quality(out: &mut [u8], at: usize, answer: QualityAnswer) -> usize {
     if answer.refused == 0 {
         let quality = answer.quality;
         put_optional(out, at, quality)
     } else {
         put_turned_away(out, at, answer.refused)
     }
+}
+
+// The same, if the state has the channel; of one that it does not have nothing is shown.
+fn put_channel_quality(
+    out: &mut [u8],
+    at: usize,
+    c: usize,
+    channels: usize,
+    answer: QualityAnswer,
+) -> usize {
+    if c < channels {
+        put_quality(out, at, answer)
+    } else {
+        at
+    }
+}
+
+// A field for each channel of the state.
+fn put_qualities(
+    out: &mut [u8],
+    at: usize,
+    channels: usize,
+    qualities: [QualityAnswer; 4],
+) -> usize {
+    let mut at = at;
+    for c in 0..4 {
+        let quality = qualities[c];
+        at = put_channel_quality(out, at, c, channels, quality);
+    }
+    at
+}
+
+// What an estimator answers over all its channels: the log2 figure, the same in decibels, and the quality of each channel.
+pub struct FullReadings {
+    pub log2: FullBandFigure,
+    pub db: FullBandFigure,
+    pub qualities: [QualityAnswer; 4],
+}
+
+// The line of these readings, of a state with so many channels.
+pub fn put_full_line(out: &mut [u8], at: usize, channels: usize, readings: FullReadings) -> usize {
+    let log2 = readings.log2;
+    let db = readings.db;
+    let qualities = readings.qualities;
+    let at = put_bytes(out, at, b"full");
+    let at = put_reading(out, at, log2);
+    let at = put_reading(out, at, db);
+    let at = put_qualities(out, at, channels, qualities);
+    put_bytes(out, at, b"\n")
 }
 
 // Sums, extremes, the log2 of the ratio, and the quality before clamping.

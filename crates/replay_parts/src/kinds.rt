@@ -1,44 +1,34 @@
-// The script's records, one after the other, and what each kind asks.
-use crate::fullband::reset_fullband;
-use crate::fullband::start_fullband;
-use crate::fullband::update_fullband;
-use crate::shown::bad_shown;
-use crate::standing::Standing;
-use crate::standing::Step;
-use crate::standing::step_with;
-use crate::subband::reset_subband;
-use crate::subband::start_subband;
-use crate::subband::update_subband;
+// Which kinds of records there are: the digits before the last tell the sorts apart, the last one the calls of a sort.
 use encoding::half_at;
-use encoding::word_at;
+use replay_fullband::fullband_ok;
+use replay_subband::subband_ok;
 use script::Next;
-use script::ended;
-use script::next_record;
-use script::rest_from;
 
-// Replays the record that stands next.
-pub fn replay_next(standing: Standing, buffer: &mut [u8], out: &mut [u8], at: usize) -> Step {
-    match next_record(buffer) {
-        Next::Record(n) => replay_record(&buffer[0..n], standing, out, at),
-        Next::End => step_with(standing, ended(at)),
-        Next::Malformed => bad_shown(standing, out, at),
+// What the input asks for next: a well-formed call to an estimator, or an end of the run.
+pub enum Sort {
+    Subband,
+    Fullband,
+    Malformed,
+    End,
+}
+
+fn if_ok(ok: bool, sort: Sort) -> Sort {
+    if ok { sort } else { Sort::Malformed }
+}
+
+fn sort_of_record(record: &[u8]) -> Sort {
+    match half_at(record, 0) / 16 {
+        0x013 => if_ok(subband_ok(record), Sort::Subband),
+        0x015 => if_ok(fullband_ok(record), Sort::Fullband),
+        _ => Sort::Malformed,
     }
 }
 
-// An update is made once, a repeat as often as the field before its body says.
-fn replay_record(record: &[u8], standing: Standing, out: &mut [u8], at: usize) -> Step {
-    let once = rest_from(record, 2);
-    let repeated = rest_from(record, 6);
-    let times = word_at(record, 2);
-    match half_at(record, 0) {
-        0x0130 => start_subband(record, standing, out, at),
-        0x0131 => update_subband(once, 1, standing, out, at),
-        0x0132 => reset_subband(record, standing, out, at),
-        0x0133 => update_subband(repeated, times, standing, out, at),
-        0x0150 => start_fullband(record, standing, out, at),
-        0x0151 => update_fullband(once, 1, standing, out, at),
-        0x0152 => reset_fullband(record, standing, out, at),
-        0x0153 => update_fullband(repeated, times, standing, out, at),
-        _ => bad_shown(standing, out, at),
+// The sort of what was read, with the bytes of the record.
+pub fn sort_of(next: Next, record: &[u8]) -> Sort {
+    match next {
+        Next::Record(_) => sort_of_record(record),
+        Next::End => Sort::End,
+        Next::Malformed => Sort::Malformed,
     }
 }

@@ -42,3 +42,13 @@ pub fn next_record(buffer: &mut [u8]) -> Next
     }
     Next::Record(n)
 }
+
+// The bytes of the record that was read to the start of a buffer; where there is none, no bytes.
+pub fn record_in(buffer: &[u8], next: Next) -> &[u8]
+    requires { ⌜ sizeOf next ≤ length (now buffer) ⌝ }
+{
+    match next {
+        Next::Record(n) => &buffer[0..n],
+        _ => &buffer[0..0],
+    }
+}

@@ -1,29 +1,25 @@
 // What the programs that replay a script of library calls share: how records are read, how lists lie in a record, and
-// how lines are written. No public function asks anything of its caller.
+// how lines are written. Of the public functions only `record_in` asks something of its caller: that the record lies in
+// the buffer.
 pub mod answers;
 pub mod input;
 pub mod line;
 pub mod lists;
 pub mod output;
 
-pub use answers::none_stands;
-pub use answers::put_answer;
+pub use answers::Call;
 pub use answers::put_array_line;
 pub use answers::put_band_line;
+pub use answers::put_call_line;
 pub use answers::put_head;
-pub use answers::start_refused;
 pub use input::Next;
 pub use input::next_record;
 pub use input::record_buffer;
-pub use line::Turn;
-pub use line::bad;
-pub use line::ended;
-pub use line::line_end;
+pub use input::record_in;
 pub use line::put_bands;
 pub use line::put_count;
 pub use line::put_field;
 pub use line::put_figure;
-pub use line::put_outcome;
 pub use line::put_refused;
 pub use lists::MOST_BLOCK_FLOATS;
 pub use lists::MOST_FLAGS;
@@ -37,4 +33,5 @@ pub use lists::part_length;
 pub use lists::rest_from;
 pub use output::flushed;
 pub use output::text_buffer;
+pub use output::write_bad;
 pub use output::write_out;

@@ -1,35 +1,8 @@
-// What a record gives: text over a lent slice, from a place on.
+// The fields of a line: text over a lent slice, from a place on. Each function gives the place after its text.
 use encoding::bits_of;
 use encoding::put_bytes;
 use encoding::put_decimal;
 use encoding::put_hex8;
-
-// The place after the text, and whether the run goes on.
-pub struct Turn {
-    pub at: usize,
-    pub more: bool,
-}
-
-// The end of the script.
-pub fn ended(at: usize) -> Turn {
-    Turn { at, more: false }
-}
-
-// A malformed record.
-pub fn bad(out: &mut [u8], at: usize) -> Turn {
-    Turn {
-        at: put_bytes(out, at, b"bad\n"),
-        more: false,
-    }
-}
-
-// The end of a record's last line.
-pub fn line_end(out: &mut [u8], at: usize) -> Turn {
-    Turn {
-        at: put_bytes(out, at, b"\n"),
-        more: true,
-    }
-}
 
 // A count or a place in decimal. None that is printed has more than 32 bits.
 pub fn put_count(out: &mut [u8], at: usize, n: usize) -> usize {
@@ -46,15 +19,6 @@ pub fn put_field(out: &mut [u8], at: usize, n: usize) -> usize {
 pub fn put_refused(out: &mut [u8], at: usize, number: u32) -> usize {
     let at = put_bytes(out, at, b"refused ");
     put_decimal(out, at, number)
-}
-
-// A word for a call that was accepted, or the number under which it was refused.
-pub fn put_outcome(out: &mut [u8], at: usize, word: &[u8], refused: u32) -> usize {
-    if refused == 0 {
-        put_bytes(out, at, word)
-    } else {
-        put_refused(out, at, refused)
-    }
 }
 
 // One more field: the bits of a figure.

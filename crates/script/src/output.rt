@@ -1,4 +1,5 @@
 // The text that the records give, on its way to standard output.
+use encoding::put_bytes;
 use libc::STDOUT_FILENO;
 ghost use mathlib.Core.Path.{_≡_};
 ghost use lib.ListN.{length};
@@ -28,4 +29,10 @@ pub fn flushed(out: &[u8], at: usize) -> usize {
         return 0;
     }
     at
+}
+
+// The end of a run at a malformed record.
+pub fn write_bad(out: &mut [u8], at: usize) {
+    let end = put_bytes(out, at, b"bad\n");
+    write_out(out, end);
 }

@@ -6,11 +6,11 @@ use Rattle.replay_parts.proofs.run.Statement.{statement}
 use Rattle.replay_parts.proofs.run.Tie as tie
 
 abbrev Inv-loop : tie.InvT-loop
-Inv-loop buffer₀ out₀ standing₀ at₀ turns₀ buffer out standing at turns =
+Inv-loop buffer₀ out₀ subband₀ fullband₀ at₀ turns₀ buffer out subband fullband at turns =
     (length buffer ≡ length buffer₀) × (length out ≡ length out₀)
 
 abbrev μ-loop : tie.MeasureT-loop
-μ-loop buffer₀ out₀ standing₀ at₀ turns₀ buffer out standing at turns = turns
+μ-loop buffer₀ out₀ subband₀ fullband₀ at₀ turns₀ buffer out subband fullband at turns = turns
 
 pub run-spec : {M : Type 1} → statement M
 run-spec =
@@ -19,9 +19,24 @@ run-spec =
     Inv-loop
     μ-loop
     (λ c κs. search needs)
+    (λ c κs. search needs)
+    (λ c. search needs)
     (λ c. search needs)
     (λ c κs. search needs)
     (λ c κs. search needs)
+    (λ c κs. search needs)
+    (λ c κs. search needs)
+    (λ c. search needs)
+    (λ c κs. search needs)
+    (λ c. search needs)
+    (λ c. search needs)
+    (λ c. search needs)
+    (λ c κs. search needs)
+    (λ c. search needs)
+    (λ c. search needs)
+    (λ c. search needs)
+    (λ c κs. search needs)
+    (λ c. search needs)
     (λ c. search needs)
     (λ c. search needs)
     (λ c. search needs)
