@@ -43,12 +43,19 @@ pub fn next_record(buffer: &mut [u8]) -> Next
     Next::Record(n)
 }
 
+// The first bytes of a buffer, or none where it does not have so many.
+fn first_bytes(buffer: &[u8], n: usize) -> &[u8] {
+    if n <= buffer.len() {
+        &buffer[0..n]
+    } else {
+        &buffer[0..0]
+    }
+}
+
 // The bytes of the record that was read to the start of a buffer; where there is none, no bytes.
-pub fn record_in(buffer: &[u8], next: Next) -> &[u8]
-    requires { ⌜ sizeOf next ≤ length (now buffer) ⌝ }
-{
+pub fn record_in(buffer: &[u8], next: Next) -> &[u8] {
     match next {
-        Next::Record(n) => &buffer[0..n],
-        _ => &buffer[0..0],
+        Next::Record(n) => first_bytes(buffer, n),
+        _ => first_bytes(buffer, 0),
     }
 }
