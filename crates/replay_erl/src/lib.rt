@@ -16,7 +16,8 @@ use script::put_call_line;
 use script::put_figure;
 ghost use Prim.Native.Nat.{_<_};
 
-// The estimator of the latest start. Before the first start none stands, and the one that lies here is never shown.
+// The estimator of the latest start. Before the first start none stands: calls change the one that lies here, and it is
+// never shown.
 pub struct ErlStanding {
     pub stands: bool,
     pub erl: ErlEstimator,
@@ -117,7 +118,7 @@ fn accepted(erl: ErlEstimator) -> ErlUpdate {
     }
 }
 
-// What a call answers. 0110: startup count. 0112: no body.
+// What a call answers. A start has its startup count, a reset no body.
 fn answer_to(erl: ErlEstimator, record: &[u8]) -> ErlUpdate {
     match call_of(record) {
         Call::Start => accepted(ErlEstimator::new(word_at(record, 2))),

@@ -23,24 +23,6 @@ use update_bodies::ring::places_of;
 use update_bodies::ring::ring_of;
 use update_bodies::ring::update_ok;
 
-// What stands before the first record: a start without channels is refused.
-pub fn no_erle() -> ErleEstimator {
-    let settings = ErleSettings {
-        min: 0.0,
-        max_l: 0.0,
-        max_h: 0.0,
-        onset_detection: false,
-        num_capture_channels: 0,
-        num_sections: 0,
-        filter_length_blocks: 0,
-        delay_headroom_samples: 0,
-        clamp_quality_estimate_to_zero: false,
-        clamp_quality_estimate_to_one: false,
-    };
-    let answer = ErleEstimator::new(0, settings);
-    answer.state
-}
-
 fn call_of(record: &[u8]) -> Call {
     match half_at(record, 0) {
         0x0120 => Call::Start,
@@ -65,6 +47,13 @@ fn settings_of(record: &[u8]) -> ErleSettings {
         clamp_quality_estimate_to_zero: word_at(record, 38) == 1,
         clamp_quality_estimate_to_one: word_at(record, 42) == 1,
     }
+}
+
+// What stands before the first record: none, as a start whose fields are all 0 is refused.
+pub fn no_erle() -> ErleEstimator {
+    let record = [0; 46];
+    let answer = ErleEstimator::new(0, settings_of(&record));
+    answer.state
 }
 
 // Whether a start is well-formed.

@@ -22,20 +22,6 @@ use update_bodies::part::places_of;
 use update_bodies::part::times_of;
 use update_bodies::part::update_ok;
 
-// What stands before the first record: a start without channels is refused.
-pub fn no_fullband() -> FullBandErleEstimator {
-    let settings = FullBandSettings {
-        min: 0.0,
-        max_l: 0.0,
-        max_h: 0.0,
-        clamp_quality_estimate_to_zero: false,
-        clamp_quality_estimate_to_one: false,
-        num_capture_channels: 0,
-    };
-    let answer = FullBandErleEstimator::new(settings);
-    answer.state
-}
-
 fn call_of(record: &[u8]) -> Call {
     match half_at(record, 0) {
         0x0150 => Call::Start,
@@ -56,6 +42,13 @@ fn settings_of(record: &[u8]) -> FullBandSettings {
         clamp_quality_estimate_to_one: word_at(record, 18) == 1,
         num_capture_channels: word_at(record, 22) as usize,
     }
+}
+
+// What stands before the first record: none, as a start whose fields are all 0 is refused.
+pub fn no_fullband() -> FullBandErleEstimator {
+    let record = [0; 26];
+    let answer = FullBandErleEstimator::new(settings_of(&record));
+    answer.state
 }
 
 // Whether a record is a well-formed call. A reset has no body.

@@ -24,22 +24,6 @@ use update_bodies::ring::places_of;
 use update_bodies::ring::ring_of;
 use update_bodies::ring::update_ok;
 
-// What stands before the first record: a start without channels is refused.
-pub fn no_signal() -> SignalDependentErleEstimator {
-    let settings = SignalDependentSettings {
-        min: 0.0,
-        max_l: 0.0,
-        max_h: 0.0,
-        onset_detection: false,
-        num_capture_channels: 0,
-        num_sections: 0,
-        filter_length_blocks: 0,
-        delay_headroom_samples: 0,
-    };
-    let answer = SignalDependentErleEstimator::new(settings);
-    answer.state
-}
-
 fn call_of(record: &[u8]) -> Call {
     match half_at(record, 0) {
         0x0140 => Call::Start,
@@ -62,6 +46,13 @@ fn settings_of(record: &[u8]) -> SignalDependentSettings {
         filter_length_blocks: word_at(record, 26) as usize,
         delay_headroom_samples: word_at(record, 30) as usize,
     }
+}
+
+// What stands before the first record: none, as a start whose fields are all 0 is refused.
+pub fn no_signal() -> SignalDependentErleEstimator {
+    let record = [0; 34];
+    let answer = SignalDependentErleEstimator::new(settings_of(&record));
+    answer.state
 }
 
 // Whether a record is a well-formed call. A reset has no body.

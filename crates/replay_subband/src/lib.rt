@@ -22,19 +22,6 @@ use update_bodies::part::places_of;
 use update_bodies::part::times_of;
 use update_bodies::part::update_ok;
 
-// What stands before the first record: a start without channels is refused.
-pub fn no_subband() -> SubbandErleEstimator {
-    let settings = SubbandSettings {
-        min: 0.0,
-        max_l: 0.0,
-        max_h: 0.0,
-        onset_detection: false,
-        num_capture_channels: 0,
-    };
-    let answer = SubbandErleEstimator::new(settings);
-    answer.state
-}
-
 fn call_of(record: &[u8]) -> Call {
     match half_at(record, 0) {
         0x0130 => Call::Start,
@@ -53,6 +40,13 @@ fn settings_of(record: &[u8]) -> SubbandSettings {
         onset_detection: word_at(record, 14) == 1,
         num_capture_channels: word_at(record, 18) as usize,
     }
+}
+
+// What stands before the first record: none, as a start whose fields are all 0 is refused.
+pub fn no_subband() -> SubbandErleEstimator {
+    let record = [0; 22];
+    let answer = SubbandErleEstimator::new(settings_of(&record));
+    answer.state
 }
 
 // Whether a record is a well-formed call. A reset has no body.

@@ -4,7 +4,8 @@ use crate::line::put_field;
 use crate::line::put_refused;
 use encoding::put_bytes;
 
-// What a record asks of an estimator. Which kinds ask for it, each sort of estimator says for itself; all others are unknown.
+// What a record asks of an estimator. Which kinds ask for it, each sort of estimator says for itself. A record of any other
+// kind is malformed, so that no unknown call is made or shown.
 pub enum Call {
     Start,
     Update,

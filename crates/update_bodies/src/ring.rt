@@ -1,4 +1,4 @@
-// The body of an update of an ERLE estimator: what the call says of itself, and the lists that it lends. The
+// The body of an update of an estimator that reads the ring: what the call says of itself, and the lists that it lends. The
 // signal-dependent estimator alone is lent two averages besides; the whole estimator makes its own.
 use encoding::word_at;
 use script::bytes_of_floats;
