@@ -1,4 +1,4 @@
--- The estimator's judging of a record whose form passes, against the record's own.
+-- The estimator's own judging adds nothing to the record's.
 use mathlib.Core.Path.{_≡_, refl, sym, ap, _∙_}
 use mathlib.Core.Bool.{Bool, true, false, cond, not, _&&_}
 use mathlib.Core.List.{List, []}
@@ -13,17 +13,19 @@ use Rattle.aec3_common.specs.Calls.{lengthsOk, valuesInRange}
 use Rattle.aec3_common.specs.Lists.{tab, every}
 use Rattle.aec3_common.specs.Refusal.{unless, firstOf, accepted, badValue}
 use Rattle.aec3_common.specs.Settings.{headroomBlocks, sectionsOk, limitsAndChannelsRefusal, sectionedSettingsRefusal, settingsRefusal}
-use Rattle.aec3_common.proofs.Choices.{passed, and-true}
+use Rattle.aec3_common.proofs.Choices.{and-left, and-right, and-true}
 use Rattle.aec3_common.proofs.Every.{every-by}
 use Rattle.aec3_common.proofs.Tables.{length-tab, getD-tab}
 use Rattle.section_echoes.specs.Packed.{total}
 use Rattle.signal_dependent_erle_estimator.specs.SignalDependent.{ringRefusal, responsesOk}
 use Rattle.erle_estimator.specs.declared.ErleEstimator.{ErleEstimator}
-use Rattle.erle_estimator.specs.Erle.{stateOk, stateRefusal, lentLengthsOk, lentValuesOk, updateRefusal}
-use Rattle.trace_records.specs.Records.{settingsIn, flagsIn, renderIn, captureIn, residualIn}
-use Rattle.trace_records.specs.Judge.{settingsValues, blockValues}
+use Rattle.erle_estimator.specs.Erle.{stateOk, lentLengthsOk, lentValuesOk, updateRefusal}
+use Rattle.trace_records.specs.declared.records.SettingsRecord.{SettingsRecord}
+use Rattle.trace_records.specs.Records.{BlockRecord, settings, block, erleSettings, blockIn}
+use Rattle.trace_records.specs.Judge.{valueRefusal}
 use Rattle.trace_records.proofs.Blocks.{length-flags, length-render, length-capture, length-residual}
-use Rattle.trace.specs.Apply.{silentRing, updateIn}
+use Rattle.trace.specs.declared.Trace.{Trace}
+use Rattle.trace.specs.Apply.{channelsOf, traceOk, silentRing, updateIn}
 
 -- a refusal, and nothing after it
 first-alone : (n : ℕ) → firstOf n accepted ≡ n
@@ -31,9 +33,9 @@ first-alone zero = refl
 first-alone (suc n) = rw (ne-eqb (suc n) accepted (λ e. omega arith))
 
 -- a settings record has one section, which number 3 lets pass
-pub start-judged : (r : List ℕ) → settingsRefusal (settingsIn r) ≡ settingsValues r
-unfolding settingsRefusal sectionedSettingsRefusal sectionsOk settingsIn settingsValues
-start-judged r = first-alone (settingsValues r)
+pub start-judged : (l : ℕ) (s : SettingsRecord) → settingsRefusal (erleSettings s) ≡ valueRefusal (settings l s)
+unfolding settingsRefusal sectionedSettingsRefusal sectionsOk erleSettings valueRefusal
+start-judged l s = first-alone (valueRefusal (settings l s))
 
 -- no response blocks
 abbrev none : ℕ → ℕ
@@ -55,9 +57,12 @@ silent =
     (λ k h. rw (getD-tab 65 (λ k. zero32) k zero32 (omega (arith, length-tab 65 (λ k. zero32)))) zero-passes)
 
 module _ (n : ℕ) (r : List ℕ) where
+  abbrev b : BlockRecord
+  b = blockIn n r
+
   -- all that a block is lent has the length that is asked
-  lengths-pass : (filterLength : ℕ) → lentLengthsOk filterLength (updateIn n r) ≡ true
-  unfolding lentLengthsOk responsesOk updateIn
+  lengths-pass : (filterLength : ℕ) → lentLengthsOk filterLength (updateIn n b) ≡ true
+  unfolding lentLengthsOk responsesOk updateIn blockIn
   lengths-pass filterLength =
       simp (
         eq-eqb _ _ (length-flags n r),
@@ -76,19 +81,27 @@ module _ (n : ℕ) (r : List ℕ) where
           (λ k h. rw (getD-tab n none k 0 (omega (arith, length-tab n none))) (le-leb 0 filterLength (omega arith)))
 
   -- and only the record's own values can be out of range
-  values-same : lentValuesOk (updateIn n r) ≡ valuesInRange (renderIn n r) (captureIn n r) (residualIn n r)
+  values-same : lentValuesOk (updateIn n b) ≡ valuesInRange (b .render) (b .capture) (b .residual)
   unfolding lentValuesOk updateIn every
   values-same = rw (silent, and-true, and-true)
 
-  -- a block, of a state that number 20 lets pass and that has no headroom
+  -- the estimator's judging of a block in form, of a state that number 20 lets pass and that has no headroom: the record's values, no more
   pub update-judged :
-      (e : ErleEstimator) → e .settings .«num_capture_channels» ≡ n → stateOk e ≡ true → e .settings .«delay_headroom_samples» ≡ 0
-      → updateRefusal e (updateIn n r) ≡ blockValues n r
-  unfolding updateRefusal blockValues updateIn ringRefusal
+      (e : ErleEstimator) → channelsOf e ≡ n → stateOk e ≡ true → e .settings .«delay_headroom_samples» ≡ 0
+      → updateRefusal e (updateIn n b) ≡ valueRefusal (block (length r) b)
+  unfolding updateRefusal valueRefusal updateIn ringRefusal
   update-judged e count ok flat =
-      rw (ok, eq-eqb n (e .settings .«num_capture_channels») (sym count), flat, lengths-pass (e .settings .«filter_length_blocks»), values-same)
+      rw (ok, eq-eqb n (channelsOf e) (sym count), flat, lengths-pass (e .settings .«filter_length_blocks»), values-same)
 
--- a reset of such a state
-pub reset-judged : (e : ErleEstimator) → stateOk e ≡ true → stateRefusal e ≡ accepted
-unfolding stateRefusal
-reset-judged e ok = rw ok
+-- a state whose settings stand, and that 20 lets pass
+pub passing :
+    (t : Trace) → 1 ≤ channelsOf (t .estimator) → channelsOf (t .estimator) ≤ 4 → traceOk t ≡ true
+    → (stateOk (t .estimator) ≡ true) × (t .estimator .settings .«num_sections» ≡ 1) × (t .estimator .settings .«delay_headroom_samples» ≡ 0)
+unfolding traceOk
+passing t some few ok =
+    let e = t .estimator in
+    let one = eqb (e .settings .«num_sections») 1 in
+    let flat = eqb (e .settings .«delay_headroom_samples») 0 in
+    let both : stateOk e && (one && flat) ≡ true = rw (le-leb 1 (channelsOf e) some, le-leb (channelsOf e) 4 few) at ok in
+    let settings = and-right (stateOk e) (one && flat) both in
+    (and-left (stateOk e) (one && flat) both, eqb-true _ _ (and-left one flat settings), eqb-true _ _ (and-right one flat settings))

@@ -1,8 +1,6 @@
-pub mod ByKind
 pub mod Room
 pub mod Judged
 pub mod Lines
 pub mod Stepping
 pub mod Running
 pub mod Turning
-pub mod StepsListed

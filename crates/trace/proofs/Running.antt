@@ -1,63 +1,49 @@
--- A run from the beginning: the estimator judges each record as the definition of the listing does.
-use mathlib.Core.Path.{_≡_, refl, sym, ap, _∙_, subst}
-use mathlib.Core.Bool.{Bool, true, false, cond, not, _&&_, false≢true}
-use mathlib.Core.List.{List}
-use Prim.Native.Nat.{ℕ, zero, suc, _≤_}
-use native.Mathlib.Omega.{arith}
-use borrow.Author.Tests.{eq-eqb, ne-eqb, eqb-true, eqb-false, le-leb}
-use lib.Dec.{eqb}
-use lib.ListN.{length}
+-- What a run from the beginning keeps.
+use mathlib.Core.Path.{_≡_, refl, sym, ap, _∙_}
+use mathlib.Core.Bool.{Bool, true, false, cond, false≢true}
+use mathlib.Core.List.{List, [], _∷_}
+use Prim.Native.Nat.{ℕ}
+use borrow.Author.Tests.{eq-eqb, eqb-true}
+use lib.Dec.{eqb, ltb}
 use Rattle.aec3_common.specs.declared.settings.ErleSettings.{ErleSettings}
-use Rattle.aec3_common.specs.Calls.{valuesInRange}
-use Rattle.aec3_common.specs.Refusal.{accepted, badLimits, badChannelCount, badValue, unknownKind, badRecordLength, badFlagOrBand, noSettings, secondSettings, unless, firstOf}
-use Rattle.aec3_common.specs.Settings.{limitsOk, captureChannelsOk, limitsAndChannelsRefusal, settingsRefusal}
-use Rattle.aec3_common.proofs.Choices.{cond-has, first-of-passed}
+use Rattle.aec3_common.specs.Counts.{oneMore}
+use Rattle.aec3_common.specs.Refusal.{accepted}
+use Rattle.aec3_common.specs.Settings.{settingsRefusal}
 use Rattle.erle_estimator.specs.declared.ErleEstimator.{ErleEstimator}
-use Rattle.erle_estimator.specs.declared.ErleAnswer.{ErleAnswer}
-use Rattle.erle_estimator.specs.Erle.{stateOk, stateRefusal, startedWith, refusedSettings, startAnswer, updateAnswer, resetAnswer}
+use Rattle.erle_estimator.specs.Erle.{Update, stateOk, stateRefusal, startedWith, refusedSettings, counted, updated, afterAccepted, updateRefusal, startAnswer, updateAnswer, resetAnswer}
 use Rattle.erle_estimator.proofs.Good.{Good, good-ok, start-good, update-good, reset-good}
 use Rattle.trace_records.specs.declared.judge.Standing.{Standing}
-use Rattle.trace_records.specs.Records.{kindOf, settingsKind, blockKind, resetKind, byKind, settingsLength, blockLength, resetLength, onsetByte, delayByte, bandIn, settingsIn, startupIn, delayChangedIn, renderIn, captureIn, residualIn}
-use Rattle.trace_records.specs.Judge.{stands, flagOk, bandOk, flagsOk, settingsForm, blockForm, resetForm, settingsValues, blockValues, formRefusal, valueRefusal, recordRefusal}
-use Rattle.trace_records.proofs.Judged.{by-settings, by-block, by-reset, settings-judged, block-judged, nothing-judged, block-ok, reset-ok}
+use Rattle.trace_records.specs.declared.records.SettingsRecord.{SettingsRecord}
+use Rattle.trace_records.specs.Records.{Record, settings, block, reset, unknown, isSet, erleSettings, decoded}
+use Rattle.trace_records.specs.Judge.{nothingStands, stands, standingAfter, recordRefusal}
+use Rattle.trace_records.proofs.Judged.{settings-values, block-stands, reset-stands, unknown-refused}
 use Rattle.trace.specs.declared.Trace.{Trace}
-use Rattle.trace.specs.Apply.{channelsOf, standingOf, beginning, updateIn, answerOf, nextOf}
-use Rattle.trace.specs.Listing.{refusalAt}
-use Rattle.trace.specs.Steps.{stepRefusal, blamesState}
-use Rattle.trace.proofs.ByKind.{must-be-reset}
-use Rattle.trace.proofs.Judged.{start-judged, update-judged, reset-judged}
-use Rattle.trace.proofs.Stepping.{either-keeps, update-keeps}
+use Rattle.trace.specs.Apply.{channelsOf, standingOf, beginning, traceOk, updateIn, estimatorAfter, nextOf}
+use Rattle.trace.specs.Listing.{recordAt, refusalAt}
+use Rattle.trace.specs.Along.{stateAlong, standingAlong, JudgedAlone}
+use Rattle.trace.proofs.Judged.{start-judged}
+use Rattle.trace.proofs.Stepping.{own-number}
 
--- What a run keeps: where settings stand, the estimator is one that a run from a start gives, without headroom.
-pub record Sound (e : ErleEstimator) : Type 0 where
-  pub good : stands (standingOf e) ≡ true → Good e
-  pub flat : stands (standingOf e) ≡ true → e .settings .«delay_headroom_samples» ≡ 0
+-- ---- settings
 
--- before the first record none stand
-none-stand : (t : Bool) → stands (standingOf (startedWith 0 0 (cond t refusedSettings refusedSettings))) ≡ false
-unfolding startedWith refusedSettings
-none-stand true = refl
-none-stand false = refl
+either-keeps : (t : Bool) (x y : ErleEstimator) (g : ErleSettings) → x .settings ≡ g → y .settings ≡ g → cond t x y .settings ≡ g
+either-keeps true x y g p q = p
+either-keeps false x y g p q = q
 
-pub sound-beginning : Sound (beginning .estimator)
-unfolding beginning startAnswer
-sound-beginning =
-    let none = none-stand (eqb (settingsRefusal refusedSettings) accepted) in
-    record { good = λ s. absurd (false≢true (sym none ∙ s)); flat = λ s. absurd (false≢true (sym none ∙ s)) }
+-- an update keeps them
+pub update-keeps : (e : ErleEstimator) (u : Update) → updateAnswer e u .state .settings ≡ e .settings
+unfolding updateAnswer afterAccepted counted updated
+update-keeps e u =
+    either-keeps (eqb (updateRefusal e u) accepted) (afterAccepted e u) e (e .settings)
+    (either-keeps (ltb (oneMore (e .«blocks_since_reset»)) (e .«startup_phase_length_blocks»)) (counted e) (updated (counted e) u) (e .settings) refl refl)
+    refl
 
-stands-by : (e : ErleEstimator) → 1 ≤ channelsOf e → channelsOf e ≤ 4 → stands (standingOf e) ≡ true
-stands-by e some few = rw (le-leb 1 (channelsOf e) some, le-leb (channelsOf e) 4 few)
-
--- the kinds of a record whose form passes
-data KindIs (r : List ℕ) : Type 0 where
-  is-settings : kindOf r ≡ settingsKind → KindIs r
-  is-block : kindOf r ≡ blockKind → KindIs r
-  is-reset : kindOf r ≡ resetKind → KindIs r
-
+-- and so does a reset
 reset-keeps : (e : ErleEstimator) (delayChanged : Bool) → resetAnswer e delayChanged .state .settings ≡ e .settings
 unfolding resetAnswer startedWith
 reset-keeps e delayChanged = either-keeps (eqb (stateRefusal e) accepted) _ e (e .settings) refl refl
 
+-- an accepted start has those that it was given
 start-settings : (startup : ℕ) (g : ErleSettings) → settingsRefusal g ≡ accepted → startAnswer startup g .state .settings ≡ g
 unfolding startAnswer startedWith
 start-settings startup g ok = rw (eq-eqb (settingsRefusal g) accepted ok)
@@ -65,126 +51,118 @@ start-settings startup g ok = rw (eq-eqb (settingsRefusal g) accepted ok)
 abbrev headroom : ErleSettings → ℕ
 headroom g = g .«delay_headroom_samples»
 
--- a start by a record's settings
-start-sound : (startup : ℕ) (r : List ℕ) → startAnswer startup (settingsIn r) .refused ≡ accepted → Sound (startAnswer startup (settingsIn r) .state)
-unfolding startAnswer settingsIn
-start-sound startup r ok =
-    record { good = λ s. start-good startup (settingsIn r) ok; flat = λ s. ap headroom (start-settings startup (settingsIn r) ok) }
+abbrev sections : ErleSettings → ℕ
+sections g = g .«num_sections»
 
-module _ (e : ErleEstimator) (r : List ℕ) (form : formRefusal (standingOf e) r ≡ accepted) where
-  kind : KindIs r
-  kind = go (eqb (kindOf r) settingsKind) refl (eqb (kindOf r) blockKind) refl
-    where
-      go : (s : Bool) → eqb (kindOf r) settingsKind ≡ s → (b : Bool) → eqb (kindOf r) blockKind ≡ b → KindIs r
-      go true p b q = is-settings (eqb-true (kindOf r) settingsKind p)
-      go false p true q = is-block (eqb-true (kindOf r) blockKind q)
-      go false p false q = is-reset (must-be-reset (standingOf e) r form (eqb-false (kindOf r) settingsKind p) (eqb-false (kindOf r) blockKind q))
+abbrev standingBy : ErleSettings → Standing
+standingBy g = record { «num_capture_channels» = g .«num_capture_channels» }
 
-  block-stands : kindOf r ≡ blockKind → stands (standingOf e) ≡ true
-  block-stands k = let ok = block-ok (standingOf e) r form k in stands-by e (ok .some) (ok .few)
+-- ---- what a run keeps
 
-  reset-stands : kindOf r ≡ resetKind → stands (standingOf e) ≡ true
-  reset-stands k = let ok = reset-ok (standingOf e) r form k in stands-by e (ok .some) (ok .few)
+-- where settings stand, the estimator is one that a run from a start gives, with one section and without headroom
+pub record Sound (e : ErleEstimator) : Type 0 where
+  pub good : stands (standingBy (e .settings)) ≡ true → Good e
+  pub section : stands (standingBy (e .settings)) ≡ true → e .settings .«num_sections» ≡ 1
+  pub flat : stands (standingBy (e .settings)) ≡ true → e .settings .«delay_headroom_samples» ≡ 0
 
-  -- the estimator's number is that of the record's values
-  answer-judged : Sound e → answerOf e r .refused ≡ valueRefusal (standingOf e) r
-  unfolding answerOf startAnswer updateAnswer resetAnswer
-  answer-judged sound = go kind
-    where
-      go : KindIs r → answerOf e r .refused ≡ valueRefusal (standingOf e) r
-      go (is-settings k) =
-          ap (λ (a : ErleAnswer). a .refused) (by-settings (kindOf r) _ _ _ _ k) ∙ start-judged r ∙ sym (settings-judged (standingOf e) r k)
-      go (is-block k) =
-          ap (λ (a : ErleAnswer). a .refused) (by-block (kindOf r) _ _ _ _ k)
-          ∙ update-judged (channelsOf e) r e refl (good-ok e (sound .good (block-stands k))) (sound .flat (block-stands k))
-          ∙ sym (block-judged (standingOf e) r k)
-      go (is-reset k) =
-          ap (λ (a : ErleAnswer). a .refused) (by-reset (kindOf r) _ _ _ _ k)
-          ∙ reset-judged e (good-ok e (sound .good (reset-stands k)))
-          ∙ sym (nothing-judged (standingOf e) r (λ p. omega (arith, k)) (λ p. omega (arith, k)))
-
-  -- an accepted record keeps what a run keeps
-  answer-sound : Sound e → answerOf e r .refused ≡ accepted → Sound (answerOf e r .state)
-  unfolding answerOf
-  answer-sound sound ok = go kind
-    where
-      go : KindIs r → Sound (answerOf e r .state)
-      go (is-settings k) =
-          let is = by-settings (kindOf r) _ _ _ _ k in
-          subst (λ (a : ErleAnswer). Sound (a .state)) (sym is) (start-sound (startupIn r) r (sym (ap (λ (a : ErleAnswer). a .refused) is) ∙ ok))
-      go (is-block k) =
-          let u = updateIn (channelsOf e) r in
-          subst (λ (a : ErleAnswer). Sound (a .state)) (sym (by-block (kindOf r) _ _ _ _ k))
-          (record {
-            good = λ s. update-good e u (sound .good (block-stands k));
-            flat = λ s. ap headroom (update-keeps e u) ∙ sound .flat (block-stands k);
-          })
-      go (is-reset k) =
-          subst (λ (a : ErleAnswer). Sound (a .state)) (sym (by-reset (kindOf r) _ _ _ _ k))
-          (record {
-            good = λ s. reset-good e (delayChangedIn r) (sound .good (reset-stands k));
-            flat = λ s. ap headroom (reset-keeps e (delayChangedIn r)) ∙ sound .flat (reset-stands k);
-          })
-
--- ---- of a trace's state
-
-pub step-judged : (t : Trace) (r : List ℕ) → Sound (t .estimator) → stepRefusal t r ≡ refusalAt t r
-unfolding stepRefusal recordRefusal
-step-judged t r sound = go (formRefusal (standingOf (t .estimator)) r) refl
+-- 20 lets its state pass
+pub sound-ok : (t : Trace) → Sound (t .estimator) → traceOk t ≡ true
+unfolding traceOk
+sound-ok t sound = go (stands (standingOf t)) refl
   where
-    go : (n : ℕ) → formRefusal (standingOf (t .estimator)) r ≡ n → firstOf n (answerOf (t .estimator) r .refused) ≡ firstOf n (valueRefusal (standingOf (t .estimator)) r)
-    go zero e = answer-judged (t .estimator) r e sound
-    go (suc n) e = rw (ne-eqb (suc n) accepted (λ p. omega arith))
+    go : (b : Bool) → stands (standingOf t) ≡ b → traceOk t ≡ true
+    go false e = rw e
+    go true e =
+        rw (e, good-ok (t .estimator) (sound .good e), eq-eqb _ _ (sound .section e), eq-eqb _ _ (sound .flat e))
 
-pub sound-next : (t : Trace) (r : List ℕ) → Sound (t .estimator) → refusalAt t r ≡ accepted → Sound (nextOf t r .estimator)
-unfolding nextOf recordRefusal
-sound-next t r sound ok =
-    let (form, values) = first-of-passed (formRefusal (standingOf (t .estimator)) r) (valueRefusal (standingOf (t .estimator)) r) ok in
-    answer-sound (t .estimator) r form sound (answer-judged (t .estimator) r form sound ∙ values)
+-- before the first record none stand
+none-stand : (t : Bool) → standingBy (startedWith 0 0 (cond t refusedSettings refusedSettings) .settings) ≡ nothingStands
+unfolding startedWith refusedSettings
+none-stand true = refl
+none-stand false = refl
 
--- ---- the numbers of records
+pub nothing-stands : standingOf beginning ≡ nothingStands
+unfolding beginning startAnswer
+nothing-stands = none-stand (eqb (settingsRefusal refusedSettings) accepted)
 
-abbrev Blameless : ℕ → Type 0
-Blameless n = blamesState n ≡ false
+pub sound-beginning : Sound (beginning .estimator)
+sound-beginning =
+    let none : stands (standingOf beginning) ≡ false = ap stands nothing-stands in
+    record {
+      good = λ s. absurd (false≢true (sym none ∙ s));
+      section = λ s. absurd (false≢true (sym none ∙ s));
+      flat = λ s. absurd (false≢true (sym none ∙ s));
+    }
 
-three-blameless : (a b c : Bool) (n : ℕ) → Blameless n → Blameless (unless a n (unless b badRecordLength (unless c badFlagOrBand accepted)))
-three-blameless true true true n e = refl
-three-blameless true true false n e = refl
-three-blameless true false c n e = refl
-three-blameless false b c n e = e
+module _ (t : Trace) where
+  abbrev e : ErleEstimator
+  e = t .estimator
 
-two-blameless : (a b : Bool) → Blameless (unless a badLimits (unless b badChannelCount accepted))
-two-blameless true true = refl
-two-blameless true false = refl
-two-blameless false b = refl
+  started : (l : ℕ) (s : SettingsRecord) → recordRefusal (standingOf t) (settings l s) ≡ accepted → settingsRefusal (erleSettings s) ≡ accepted
+  started l s ok = start-judged l s ∙ settings-values (standingOf t) l s ok
 
-one-blameless : (a : Bool) → Blameless (unless a badValue accepted)
-one-blameless true = refl
-one-blameless false = refl
+  -- an accepted record keeps it
+  pub sound-next : (r : Record) → Sound e → recordRefusal (standingOf t) r ≡ accepted → Sound (nextOf t r .estimator)
+  unfolding nextOf estimatorAfter erleSettings startAnswer
+  sound-next (settings l s) sound ok =
+      let g = erleSettings s in
+      let fine = started l s ok in
+      record {
+        good = λ _. start-good (s .startup) g fine;
+        section = λ _. ap sections (start-settings (s .startup) g fine);
+        flat = λ _. ap headroom (start-settings (s .startup) g fine);
+      }
+  sound-next (block l b) sound ok =
+      let u = updateIn (channelsOf e) b in
+      let some = block-stands (standingOf t) l b ok in
+      record {
+        good = λ _. update-good e u (sound .good some);
+        section = λ _. ap sections (update-keeps e u) ∙ sound .section some;
+        flat = λ _. ap headroom (update-keeps e u) ∙ sound .flat some;
+      }
+  sound-next (reset l flag) sound ok =
+      let some = reset-stands (standingOf t) l flag ok in
+      record {
+        good = λ _. reset-good e (isSet flag) (sound .good some);
+        section = λ _. ap sections (reset-keeps e (isSet flag)) ∙ sound .section some;
+        flat = λ _. ap headroom (reset-keeps e (isSet flag)) ∙ sound .flat some;
+      }
+  sound-next unknown sound ok = absurd (unknown-refused (standingOf t) ok)
 
-kind-blameless :
-    (k settings block reset other : ℕ) → Blameless settings → Blameless block → Blameless reset → Blameless other
-    → Blameless (byKind k settings block reset other)
-unfolding byKind
-kind-blameless k settings block reset other s b r o =
-    cond-has Blameless (eqb k settingsKind) (λ e. s)
-    (λ e. cond-has Blameless (eqb k blockKind) (λ e. b) (λ e. cond-has Blameless (eqb k resetKind) (λ e. r) (λ e. o)))
+  -- what stands after it is what judging alone says
+  standing-next : (r : Record) → recordRefusal (standingOf t) r ≡ accepted → standingOf (nextOf t r) ≡ standingAfter (standingOf t) r
+  unfolding nextOf estimatorAfter standingAfter erleSettings
+  standing-next (settings l s) ok = ap standingBy (start-settings (s .startup) (erleSettings s) (started l s ok))
+  standing-next (block l b) ok = ap standingBy (update-keeps e (updateIn (channelsOf e) b))
+  standing-next (reset l flag) ok = ap standingBy (reset-keeps e (isSet flag))
+  standing-next unknown ok = refl
 
--- no record is judged under a number that blames the state
-pub never-blames : (st : Standing) (r : List ℕ) → blamesState (recordRefusal st r) ≡ false
-unfolding recordRefusal formRefusal valueRefusal settingsForm blockForm resetForm settingsValues limitsAndChannelsRefusal blockValues
-never-blames st r =
-    let n = st .«num_capture_channels» in
-    let g = settingsIn r in
-    let form =
-    kind-blameless (kindOf r) _ _ _ unknownKind
-    (three-blameless (not (stands st)) (eqb (length r) settingsLength) (flagOk (onsetByte r) && bandOk (bandIn r)) secondSettings refl)
-    (three-blameless (stands st) (eqb (length r) (blockLength n)) (flagsOk n r) noSettings refl)
-    (three-blameless (stands st) (eqb (length r) resetLength) (flagOk (delayByte r)) noSettings refl)
-    refl in
-    let value =
-    kind-blameless (kindOf r) _ _ accepted accepted
-    (two-blameless (limitsOk (g .min) (g .«max_l») (g .«max_h»)) (captureChannelsOk (g .«num_capture_channels»)))
-    (one-blameless (valuesInRange (renderIn n r) (captureIn n r) (residualIn n r)))
-    refl refl in
-    cond-has Blameless (eqb (formRefusal st r) accepted) (λ e. value) (λ e. form)
+-- ---- along a trace
+
+abbrev Holds : Trace → Standing → Type 0
+Holds t st = (traceOk t ≡ true) × (standingOf t ≡ st)
+
+along : (t : Trace) → Sound (t .estimator) → (ss : List (List ℕ)) → Holds (stateAlong t ss) (standingAlong (standingOf t) ss)
+unfolding stateAlong standingAlong
+along t sound [] = (sound-ok t sound, refl)
+along t sound (s ∷ ss) =
+    let r = recordAt t s in
+    rw (own-number t r (sound-ok t sound))
+    (go (eqb (recordRefusal (standingOf t) r) accepted) refl
+    (λ ok. along (nextOf t r) (sound-next t r sound ok) ss))
+  where
+    go :
+        (b : Bool) → eqb (recordRefusal (standingOf t) (recordAt t s)) accepted ≡ b
+        → (recordRefusal (standingOf t) (recordAt t s) ≡ accepted → Holds (stateAlong (nextOf t (recordAt t s)) ss) (standingAlong (standingOf (nextOf t (recordAt t s))) ss))
+        → Holds (cond b (stateAlong (nextOf t (recordAt t s)) ss) t) (cond b (standingAlong (standingAfter (standingOf t) (recordAt t s)) ss) (standingOf t))
+    go true e later =
+        let ok = eqb-true (recordRefusal (standingOf t) (recordAt t s)) accepted e in
+        let (passes, same) = later ok in
+        (passes, same ∙ ap (λ (st : Standing). standingAlong st ss) (standing-next t (recordAt t s) ok))
+    go false e later = (sound-ok t sound, refl)
+
+pub judged-alone : JudgedAlone beginning
+unfolding JudgedAlone
+judged-alone ss =
+    let (passes, stands) = along beginning sound-beginning ss in
+    (passes, stands ∙ ap (λ (st : Standing). standingAlong st ss) nothing-stands)

@@ -1,85 +1,72 @@
 -- The outcomes of a step.
 use mathlib.Core.Path.{_≡_, refl, sym, ap, _∙_}
 use mathlib.Core.Bool.{Bool, true, false, cond}
-use mathlib.Core.List.{List, [], _∷_, _++_}
+use mathlib.Core.List.{List, [], _∷_}
 use Prim.Native.Nat.{ℕ, _+_, _≤_}
-use borrow.Author.Tests.{eq-eqb, ne-eqb}
-use lib.Dec.{eqb, leb, ltb}
+use native.Mathlib.Omega.{arith}
+use borrow.Author.Tests.{eq-eqb, ne-eqb, leb-true}
+use lib.Dec.{eqb, leb}
 use lib.ListN.{length}
-use Rattle.aec3_common.specs.declared.settings.ErleSettings.{ErleSettings}
-use Rattle.aec3_common.specs.Counts.{oneMore}
-use Rattle.aec3_common.specs.Refusal.{accepted, firstOf}
+use Rattle.aec3_common.specs.Refusal.{accepted, badState}
 use Rattle.encoding.specs.Text.{laid}
-use Rattle.erle_estimator.specs.declared.ErleEstimator.{ErleEstimator}
-use Rattle.erle_estimator.specs.declared.ErleAnswer.{ErleAnswer}
-use Rattle.erle_estimator.specs.Erle.{Update, counted, updated, afterAccepted, updateRefusal, updateAnswer}
-use Rattle.trace_records.specs.Records.{kindOf, blockKind}
-use Rattle.trace_records.specs.Judge.{formRefusal}
-use Rattle.trace_records.proofs.Judged.{by-block}
-use Rattle.trace_text.specs.Text.{lines}
+use Rattle.encoding.proofs.Writing.{wrote-none}
+use Rattle.trace_records.specs.Records.{Record}
+use Rattle.trace_records.specs.Judge.{recordRefusal}
+use Rattle.trace_text.specs.Text.{line, lines}
 use Rattle.trace_text.proofs.Lines.{lines-one}
 use Rattle.trace.specs.declared.Trace.{Trace}
 use Rattle.trace.specs.declared.steps.Stepped.{Stepped}
-use Rattle.trace.specs.Apply.{standingOf, updateIn, channelsOf, answerOf, nextOf, rowsOf}
-use Rattle.trace.specs.Listing.{itemsBy}
-use Rattle.trace.specs.Steps.{mostText, stepRefusal, stepText, stepAnswer, stepOver, refusalText, RefusedBy}
+use Rattle.trace.specs.Apply.{standingOf, traceOk, nextOf, rowsOf}
+use Rattle.trace.specs.Listing.{refusalAt, refusedAt, itemsAt}
+use Rattle.trace.specs.Steps.{mostText, stepAnswer, stepOver}
 
--- an update keeps the settings
-pub either-keeps : (t : Bool) (x y : ErleEstimator) (g : ErleSettings) → x .settings ≡ g → y .settings ≡ g → cond t x y .settings ≡ g
-either-keeps true x y g p q = p
-either-keeps false x y g p q = q
+-- of a state that 20 lets pass, a record is turned away under its own number
+pub own-number : (t : Trace) (r : Record) → traceOk t ≡ true → refusalAt t r ≡ recordRefusal (standingOf t) r
+unfolding refusalAt
+own-number t r ok = rw ok
 
-pub update-keeps : (e : ErleEstimator) (u : Update) → updateAnswer e u .state .settings ≡ e .settings
-unfolding updateAnswer afterAccepted counted updated
-update-keeps e u =
-    either-keeps (eqb (updateRefusal e u) accepted) (afterAccepted e u) e (e .settings)
-    (either-keeps (ltb (oneMore (e .«blocks_since_reset»)) (e .«startup_phase_length_blocks»)) (counted e) (updated (counted e) u) (e .settings) refl refl)
-    refl
+module _ (t : Trace) (r : Record) (d : List ℕ) (at : ℕ) where
+  -- without room nothing happens
+  pub step-full :
+      leb (at + mostText) (length d) ≡ false
+      → (record { state = t; refused = accepted; at = at; fits = false } ≡ stepAnswer t r d at) × (d ≡ stepOver t r d at)
+  unfolding stepAnswer stepOver
+  step-full full = (sym (rw full), sym (rw full))
 
--- so that a block finds as many channels after it
-pub block-keeps : (e : ErleEstimator) (r : List ℕ) → kindOf r ≡ blockKind → channelsOf (answerOf e r .state) ≡ channelsOf e
-unfolding answerOf
-block-keeps e r is =
-    ap (λ (a : ErleAnswer). channelsOf (a .state)) (by-block (kindOf r) _ _ _ _ is)
-    ∙ ap (λ (g : ErleSettings). g .«num_capture_channels») (update-keeps e (updateIn (channelsOf e) r))
+  module _ (room : leb (at + mostText) (length d) ≡ true) where
+    -- nor does it where 20 turns the state away
+    pub step-bad-state :
+        traceOk t ≡ false
+        → (record { state = t; refused = badState; at = at; fits = true } ≡ stepAnswer t r d at) × (d ≡ stepOver t r d at)
+    unfolding stepAnswer stepOver refusalAt itemsAt lines
+    step-bad-state bad =
+        let none = wrote-none d at (omega (arith, leb-true (at + mostText) (length d) room)) in
+        let place : at ≡ at + 0 = omega arith in
+        ((λ i. record { state = t; refused = badState; at = place i; fits = true }) ∙ sym (rw (room, bad)), none .text ∙ sym (rw (room, bad)))
 
-module _ (t : Trace) (r : List ℕ) where
-  -- the number, by the form alone, and by the estimator where the form passes
-  pub by-form : {n : ℕ} → n ≡ formRefusal (standingOf (t .estimator)) r → (n ≡ accepted → ⊥) → n ≡ stepRefusal t r
-  unfolding stepRefusal
-  by-form {n} e some = sym (rw (← e, ne-eqb n accepted some))
-
-  pub by-answer :
-      {n : ℕ} → formRefusal (standingOf (t .estimator)) r ≡ accepted → n ≡ answerOf (t .estimator) r .refused
-      → n ≡ stepRefusal t r
-  unfolding stepRefusal
-  by-answer e same = same ∙ sym (rw (eq-eqb _ _ e))
-
-  -- the line of a refusal
-  pub text-refused : {n : ℕ} → n ≡ stepRefusal t r → (n ≡ accepted → ⊥) → stepText t r ≡ refusalText (t .records) n
-  unfolding stepText itemsBy refusalText
-  text-refused {n} is some = rw (← is, ne-eqb n accepted some, lines-one)
-
-  module _ (d : List ℕ) (at : ℕ) where
-    -- without room nothing happens
-    pub step-full :
-        leb (at + mostText) (length d) ≡ false
-        → (record { state = t; refused = accepted; at = at; fits = false } ≡ stepAnswer t r d at) × (d ≡ stepOver t r d at)
-    unfolding stepAnswer stepOver
-    step-full full = (sym (rw full), sym (rw full))
-
-    module _ (room : leb (at + mostText) (length d) ≡ true) where
+    module _ (ok : traceOk t ≡ true) where
       pub step-refused :
-          {n : ℕ} {a : Stepped} {e : List ℕ} → n ≡ stepRefusal t r → (n ≡ accepted → ⊥) → RefusedBy t n d at e a
+          {n : ℕ} {a : Stepped} {e : List ℕ} → n ≡ recordRefusal (standingOf t) r → (n ≡ accepted → ⊥)
+          → (a ≡ record { state = t; at = at + length (line (refusedAt t n)); refused = n; fits = true }) × (e ≡ laid d at (line (refusedAt t n)))
           → (a ≡ stepAnswer t r d at) × (e ≡ stepOver t r d at)
-      unfolding stepAnswer stepOver
-      step-refused {n} is some by =
-          let text = text-refused is some in
-          (by .answer ∙ sym (rw (room, text, ← is, ne-eqb n accepted some)), by .text ∙ sym (rw (room, text)))
+      unfolding stepAnswer stepOver refusalAt itemsAt
+      step-refused {n} is some (answer, text) =
+          (answer ∙ sym (rw (room, ok, ← is, ne-eqb n accepted some, lines-one)), text ∙ sym (rw (room, ok, ← is, ne-eqb n accepted some, lines-one)))
 
       pub step-accepted :
-          {u : Trace} {next : ℕ} {e : List ℕ} → stepRefusal t r ≡ accepted → u ≡ nextOf t r
+          {u : Trace} {next : ℕ} {a : Stepped} {e : List ℕ} → recordRefusal (standingOf t) r ≡ accepted → u ≡ nextOf t r
           → (e ≡ laid d at (lines (rowsOf t r))) × (next ≡ at + length (lines (rowsOf t r)))
-          → (record { state = u; refused = accepted; at = next; fits = true } ≡ stepAnswer t r d at) × (e ≡ stepOver t r d at)
-      unfolding stepAnswer stepOver stepText itemsBy
-      step-accepted is next text = (sym (rw (room, is, next, text .1)), text .0 ∙ sym (rw (room, is)))
+          → a ≡ record { state = u; at = next; refused = accepted; fits = true }
+          → (a ≡ stepAnswer t r d at) × (e ≡ stepOver t r d at)
+      unfolding stepAnswer stepOver refusalAt itemsAt
+      step-accepted is next text answer = (answer ∙ sym (rw (room, ok, is, next, text .1)), text .0 ∙ sym (rw (room, ok, is)))
+
+      -- a record that gives no rows
+      pub step-silent :
+          {u : Trace} {a : Stepped} → recordRefusal (standingOf t) r ≡ accepted → u ≡ nextOf t r → rowsOf t r ≡ []
+          → a ≡ record { state = u; at = at; refused = accepted; fits = true }
+          → (a ≡ stepAnswer t r d at) × (d ≡ stepOver t r d at)
+      unfolding lines
+      step-silent is next none answer =
+          let w = wrote-none d at (omega (arith, leb-true (at + mostText) (length d) room)) in
+          step-accepted is next (w .text ∙ sym (rw none), w .place ∙ sym (rw none)) answer

@@ -8,68 +8,67 @@ use borrow.Author.Tests.{eq-eqb, ne-eqb, eqb-true, eqb-false, le-leb, lt-leb}
 use lib.Dec.{eqb, leb}
 use lib.ListN.{length, take, drop, length-append, length-take, length-drop}
 use lib.Seq.{take-all, take-at, take-append-le, take-append-add, drop-drop, drop-length, length-take-le}
-use Rattle.aec3_common.specs.Lists.{tab}
+use Rattle.aec3_common.specs.declared.settings.ErleSettings.{ErleSettings}
+use Rattle.aec3_common.specs.Counts.{oneMore}
 use Rattle.aec3_common.specs.Refusal.{accepted, badFrame}
-use Rattle.aec3_common.proofs.Choices.{first-of-passed}
 use Rattle.encoding.specs.Text.{laid, written, after}
 use Rattle.encoding.proofs.Writing.{Wrote, wrote, wrote-then, wrote-long, wrote-none, wrote-front}
+use Rattle.erle_estimator.specs.Erle.{updateAnswer}
 use Rattle.trace_records.specs.Frames.{Frame, whole, bad, frames, framed, lengthIn, recordIn, frameLength}
-use Rattle.trace_records.specs.Records.{kindOf, blockKind, byKind}
-use Rattle.trace_records.specs.Judge.{formRefusal}
+use Rattle.trace_records.specs.Records.{Record, settings, block, reset, unknown}
+use Rattle.trace_records.specs.Judge.{valueRefusal, recordRefusal}
 use Rattle.trace_records.proofs.Framing.{frames-none, frames-whole, frames-bad, framed-room, framed-length, length-framed, no-length-framed}
-use Rattle.trace_records.proofs.Judged.{by-block, block-ok}
+use Rattle.trace_records.proofs.Judged.{block-ok}
 use Rattle.trace_text.specs.Text.{Item, spaced, lineOf, line, lines, header}
 use Rattle.trace_text.proofs.Lines.{lines-append, lines-one, line-short}
 use Rattle.trace.specs.declared.Trace.{Trace}
 use Rattle.trace.specs.declared.steps.Stepped.{Stepped}
 use Rattle.trace.specs.declared.listing.Turn.{Turn}
 use Rattle.trace.specs.declared.listing.Listed.{Listed}
-use Rattle.trace.specs.Apply.{channelsOf, standingOf, beginning, answerOf, nextOf, rowAt, rowsIf, rowsOf}
-use Rattle.trace.specs.Listing.{refusedAt, itemsBy, refusalAt, itemsOf, remaining, listing, listedAnswer, listedOver}
-use Rattle.trace.specs.Steps.{mostText, stepRefusal, blamesState, stepText, stepAnswer, stepOver}
+use Rattle.trace.specs.Apply.{channelsOf, standingOf, beginning, traceOk, updateIn, estimatorAfter, bandAfter, blocksAfter, nextOf, rowAt, rowsAt, rowsOf}
+use Rattle.trace.specs.Listing.{recordAt, refusalAt, refusedAt, itemsAt, itemsOf, remaining, listing, listedAnswer, listedOver}
+use Rattle.trace.specs.Steps.{mostText, stepText, stepAnswer, stepOver}
 use Rattle.trace.specs.Turns.{turnText, goesOn, Turned, cutOver, cutAnswer}
-use Rattle.trace.proofs.ByKind.{not-block}
 use Rattle.trace.proofs.Lines.{lines-short}
 use Rattle.trace.proofs.Room.{room-behind}
-use Rattle.trace.proofs.Stepping.{block-keeps}
-use Rattle.trace.proofs.Running.{Sound, sound-beginning, step-judged, sound-next, never-blames}
+use Rattle.trace.proofs.Running.{update-keeps}
 
 -- ---- how long the lines of a record are
 
-module _ (t : Trace) (r : List ℕ) where
-  rows-short : stepRefusal t r ≡ accepted → length (lines (rowsOf t r)) ≤ 196
-  unfolding stepRefusal rowsOf rowsIf nextOf lines
-  rows-short ok = go (eqb (kindOf r) blockKind) refl
-    where
-      go : (b : Bool) → eqb (kindOf r) blockKind ≡ b → length (lines (rowsOf t r)) ≤ 196
-      go true q =
-          let e = t .estimator in
-          let after = answerOf e r .state in
-          let is = eqb-true (kindOf r) blockKind q in
-          let form = first-of-passed (formRefusal (standingOf e) r) (answerOf e r .refused) ok .0 in
-          let rows = rowAt after (nextOf t r .band) (nextOf t r .blocks) in
-          rw (by-block (kindOf r) [] (tab (channelsOf after) rows) [] [] is)
-          (omega (arith, lines-short (channelsOf after) rows, block-keeps e r is, block-ok (standingOf e) r form is .few))
-      go false q =
-          let after = answerOf (t .estimator) r .state in
-          let rows = rowAt after (nextOf t r .band) (nextOf t r .blocks) in
-          rw (not-block (kindOf r) (tab (channelsOf after) rows) [] (eqb-false (kindOf r) blockKind q)) (omega arith)
+module _ (t : Trace) where
+  rows-short : (r : Record) → recordRefusal (standingOf t) r ≡ accepted → length (lines (rowsOf t r)) ≤ 196
+  unfolding recordRefusal rowsOf rowsAt nextOf estimatorAfter bandAfter blocksAfter lines
+  rows-short (settings l s) ok = omega arith
+  rows-short (block l b) ok =
+      let e = t .estimator in
+      let u = updateIn (channelsOf e) b in
+      let after = updateAnswer e u .state in
+      let same = ap (λ (g : ErleSettings). g .«num_capture_channels») (update-keeps e u) in
+      omega (arith, lines-short (channelsOf after) (rowAt after (t .band) (oneMore (t .blocks))), same, block-ok (standingOf t) l b (valueRefusal (block l b)) ok .few)
+  rows-short (reset l flag) ok = omega arith
+  rows-short unknown ok = omega arith
 
-  pub text-short : length (stepText t r) ≤ 196
-  unfolding stepText itemsBy
-  text-short = go (blamesState (stepRefusal t r)) refl (eqb (stepRefusal t r) accepted) refl
+  pub text-short : (r : Record) → length (stepText t r) ≤ 196
+  unfolding itemsAt lines
+  text-short r = go (traceOk t) (eqb (recordRefusal (standingOf t) r) accepted) refl
     where
-      go : (a : Bool) → blamesState (stepRefusal t r) ≡ a → (b : Bool) → eqb (stepRefusal t r) accepted ≡ b → length (stepText t r) ≤ 196
-      go true p b q = rw p (omega arith)
-      go false p true q = rw (p, q) (rows-short (eqb-true (stepRefusal t r) accepted q))
-      go false p false q = rw (p, q, lines-one) (omega (arith, line-short (refusedAt t (stepRefusal t r))))
+      go :
+          (a b : Bool) → eqb (recordRefusal (standingOf t) r) accepted ≡ b
+          → length (lines (cond a (cond b (rowsOf t r) (refusedAt t (recordRefusal (standingOf t) r) ∷ [])) [])) ≤ 196
+      go false b q = omega arith
+      go true true q = rows-short r (eqb-true (recordRefusal (standingOf t) r) accepted q)
+      go true false q = rw lines-one (omega (arith, line-short (refusedAt t (recordRefusal (standingOf t) r))))
+
+-- the record that bytes begin with
+abbrev first : Trace → List ℕ → Record
+first t s = recordAt t (recordIn s)
 
 pub turn-short : (t : Trace) (s : List ℕ) → length (turnText t s) ≤ 196
 unfolding turnText
 turn-short t s = go (framed s)
   where
-    go : (b : Bool) → length (cond b (stepText t (recordIn s)) (line (refusedAt t badFrame))) ≤ 196
-    go true = text-short t (recordIn s)
+    go : (b : Bool) → length (cond b (stepText t (first t s)) (line (refusedAt t badFrame))) ≤ 196
+    go true = text-short t (first t s)
     go false = omega (arith, line-short (refusedAt t badFrame))
 
 -- ---- what is left, by the definition
@@ -89,15 +88,15 @@ lines-if false is = refl
 
 remaining-whole :
     (t : Trace) (s : List ℕ) → 0 < length s → framed s ≡ true
-    → let r = recordIn s in
-    remaining t s ≡ lines (itemsBy (refusalAt t r) t r) ++ cond (eqb (refusalAt t r) accepted) (remaining (nextOf t r) (drop (4 + lengthIn s) s)) []
+    → let r = first t s in
+    remaining t s ≡ stepText t r ++ cond (eqb (refusalAt t r) accepted) (remaining (nextOf t r) (drop (4 + lengthIn s) s)) []
 unfolding remaining itemsOf
 remaining-whole t s h e =
-    let r = recordIn s in
+    let r = first t s in
     let is = itemsOf (nextOf t r) (frames (drop (4 + lengthIn s) s)) in
     ap (λ (fs : List Frame). lines (itemsOf t fs)) (frames-whole s h e)
-    ∙ lines-append (itemsBy (refusalAt t r) t r) (cond (eqb (refusalAt t r) accepted) is [])
-    ∙ ap (λ (l : List ℕ). lines (itemsBy (refusalAt t r) t r) ++ l) (lines-if (eqb (refusalAt t r) accepted) is)
+    ∙ lines-append (itemsAt t r) (cond (eqb (refusalAt t r) accepted) is [])
+    ∙ ap (λ (l : List ℕ). stepText t r ++ l) (lines-if (eqb (refusalAt t r) accepted) is)
 
 -- ---- a turn
 
@@ -137,19 +136,22 @@ module _ (t : Trace) (s d : List ℕ) {n : ℕ} (is : n ≡ frameLength s) (some
   lent : take (4 + n - 4) (drop 4 s) ≡ recordIn s
   lent = let size : 4 + n - 4 ≡ lengthIn s = omega (arith, size-is) in rw size
 
-  module _ {a : Stepped} {text : List ℕ} (stepped : (a ≡ stepAnswer t (take (4 + n - 4) (drop 4 s)) d 0) × (text ≡ stepOver t (take (4 + n - 4) (drop 4 s)) d 0)) where
+  abbrev lentRecord : Record
+  lentRecord = recordAt t (take (4 + n - 4) (drop 4 s))
+
+  module _ {a : Stepped} {text : List ℕ} (stepped : (a ≡ stepAnswer t lentRecord d 0) × (text ≡ stepOver t lentRecord d 0)) where
     has-room : leb (0 + mostText) (length d) ≡ true
     has-room = le-leb (0 + mostText) (length d) (omega arith)
 
-    answer : a ≡ record { state = cond (eqb (stepRefusal t (recordIn s)) accepted) (nextOf t (recordIn s)) t; refused = stepRefusal t (recordIn s); at = 0 + length (stepText t (recordIn s)); fits = true }
+    answer : a ≡ record { state = cond (eqb (refusalAt t (first t s)) accepted) (nextOf t (first t s)) t; refused = refusalAt t (first t s); at = 0 + length (stepText t (first t s)); fits = true }
     unfolding stepAnswer
     answer = stepped .0 ∙ rw (lent, has-room)
 
-    over : text ≡ laid d 0 (stepText t (recordIn s))
+    over : text ≡ laid d 0 (stepText t (first t s))
     unfolding stepOver
     over = stepped .1 ∙ rw (lent, has-room)
 
-    number : a .refused ≡ stepRefusal t (recordIn s)
+    number : a .refused ≡ refusalAt t (first t s)
     number = ap (λ (x : Stepped). x .refused) answer
 
     length-is : a .at ≡ length (turnText t s)
@@ -158,22 +160,22 @@ module _ (t : Trace) (s d : List ℕ) {n : ℕ} (is : n ≡ frameLength s) (some
 
     front-text : take (a .at) text ≡ turnText t s
     unfolding turnText
-    front-text = rw (ap (λ (x : Stepped). x .at) answer, over, is-whole) (front-is d (stepText t (recordIn s)))
+    front-text = rw (ap (λ (x : Stepped). x .at) answer, over, is-whole) (front-is d (stepText t (first t s)))
 
-    state-is : a .state ≡ cond (goesOn t s) (nextOf t (recordIn s)) t
+    state-is : a .state ≡ cond (goesOn t s) (nextOf t (first t s)) t
     unfolding goesOn
     state-is = ap (λ (x : Stepped). x .state) answer ∙ rw is-whole
 
     pub turned-on : a .refused ≡ accepted → Turned t s text (record { state = a .state; used = 4 + n; length = a .at })
     unfolding goesOn
     turned-on ok =
-        let yes = eq-eqb (stepRefusal t (recordIn s)) accepted (sym number ∙ ok) in
+        let yes = eq-eqb (refusalAt t (first t s)) accepted (sym number ∙ ok) in
         record { front = front-text; long = length-is; state = state-is; used = rw (is-whole, yes, size-is) }
 
     pub turned-off : (a .refused ≡ accepted → ⊥) → Turned t s text (record { state = a .state; used = length s; length = a .at })
     unfolding goesOn
     turned-off ends =
-        let no = ne-eqb (stepRefusal t (recordIn s)) accepted (λ e. ends (number ∙ e)) in
+        let no = ne-eqb (refusalAt t (first t s)) accepted (λ e. ends (number ∙ e)) in
         record { front = front-text; long = length-is; state = state-is; used = rw (is-whole, no) }
 
 -- all bytes from a place on are the part that is lent
@@ -187,60 +189,46 @@ pub record Left (t : Trace) (s text : List ℕ) (a : Turn) : Type 0 where
   pub some : 0 < a .used
   pub few : a .used ≤ length s
   pub lines : remaining t s ≡ take (a .length) text ++ remaining (a .state) (drop (a .used) s)
-  pub sound : Sound (a .state .estimator)
 
 -- a bad record ends the run
 ended :
-    {t : Trace} {s text : List ℕ} {a : Turn} → Sound (t .estimator) → 0 < length s → a .state ≡ t → a .used ≡ length s
+    {t : Trace} {s text : List ℕ} {a : Turn} → 0 < length s → a .used ≡ length s
     → remaining t s ≡ take (a .length) text → Left t s text a
-ended {t} {s} {text} {a} sound h state used e =
+ended {t} {s} {text} {a} h used e =
     let none = remaining-none (a .state) (drop (a .used) s) (omega (arith, length-drop (a .used) s)) in
-    record {
-      some = omega (arith, used);
-      few = omega (arith, used);
-      lines = e ∙ sym (rw (none, append-nil));
-      sound = rw state sound;
-    }
+    record { some = omega (arith, used); few = omega (arith, used); lines = e ∙ sym (rw (none, append-nil)) }
 
-module _ {t : Trace} {s text : List ℕ} {a : Turn} (sound : Sound (t .estimator)) (h : 0 < length s) (turned : Turned t s text a) where
+module _ {t : Trace} {s text : List ℕ} {a : Turn} (h : 0 < length s) (turned : Turned t s text a) where
   -- cut short, or with an L that none can have
   left-bad : framed s ≡ false → Left t s text a
   unfolding turnText goesOn
-  left-bad f =
-      ended sound h (turned .state ∙ rw f) (turned .used ∙ rw f) (remaining-bad t s h f ∙ sym (turned .front ∙ rw f))
+  left-bad f = ended h (turned .used ∙ rw f) (remaining-bad t s h f ∙ sym (turned .front ∙ rw f))
 
   module _ (f : framed s ≡ true) where
     -- the lines of a whole record
-    front : lines (itemsBy (refusalAt t (recordIn s)) t (recordIn s)) ≡ take (a .length) text
-    unfolding turnText stepText
-    front =
-        sym (turned .front ∙ rw (f, step-judged t (recordIn s) sound, never-blames (standingOf (t .estimator)) (recordIn s)))
+    front : stepText t (first t s) ≡ take (a .length) text
+    unfolding turnText
+    front = sym (turned .front ∙ rw f)
 
-    left-refused : eqb (stepRefusal t (recordIn s)) accepted ≡ false → Left t s text a
+    left-refused : eqb (refusalAt t (first t s)) accepted ≡ false → Left t s text a
     unfolding goesOn
-    left-refused q =
-        let no : eqb (refusalAt t (recordIn s)) accepted ≡ false = rw (step-judged t (recordIn s) sound) at q in
-        ended sound h (turned .state ∙ rw (f, q)) (turned .used ∙ rw (f, q))
-        (remaining-whole t s h f ∙ rw (no, append-nil) front)
+    left-refused q = ended h (turned .used ∙ rw (f, q)) (remaining-whole t s h f ∙ rw (q, append-nil) front)
 
-    left-accepted : eqb (stepRefusal t (recordIn s)) accepted ≡ true → Left t s text a
+    left-accepted : eqb (refusalAt t (first t s)) accepted ≡ true → Left t s text a
     unfolding goesOn
     left-accepted q =
-        let r = recordIn s in
-        let yes : eqb (refusalAt t r) accepted ≡ true = rw (step-judged t r sound) at q in
-        let state : a .state ≡ nextOf t r = turned .state ∙ rw (f, q) in
+        let state : a .state ≡ nextOf t (first t s) = turned .state ∙ rw (f, q) in
         let used : a .used ≡ 4 + lengthIn s = turned .used ∙ rw (f, q) in
         record {
           some = omega (arith, used);
           few = omega (arith, used, framed-room s f);
-          lines = remaining-whole t s h f ∙ rw (yes, state, used, front);
-          sound = rw state (sound-next t r sound (eqb-true (refusalAt t r) accepted yes));
+          lines = remaining-whole t s h f ∙ rw (q, state, used, front);
         }
 
   pub turn-left : Left t s text a
-  turn-left = go (framed s) refl (eqb (stepRefusal t (recordIn s)) accepted) refl
+  turn-left = go (framed s) refl (eqb (refusalAt t (first t s)) accepted) refl
     where
-      go : (f : Bool) → framed s ≡ f → (b : Bool) → eqb (stepRefusal t (recordIn s)) accepted ≡ b → Left t s text a
+      go : (f : Bool) → framed s ≡ f → (b : Bool) → eqb (refusalAt t (first t s)) accepted ≡ b → Left t s text a
       go false f b q = left-bad f
       go true f true q = left-accepted f q
       go true f false q = left-refused f q
@@ -254,7 +242,6 @@ pub record SoFar (s d : List ℕ) (t : Trace) (from : ℕ) (out : List ℕ) (at 
   pub wrote : Wrote d 0 done out at
   pub rest : listing s ≡ done ++ (piece ++ remaining t (drop from s))
   pub to : from ≤ length s
-  pub sound : Sound (t .estimator)
 
 -- the header at the front of a table
 pub header-first :
@@ -268,20 +255,19 @@ header-first d {text} {n} room w =
 pub so-far-none : (s d piece : List ℕ) → piece ≡ header → SoFar s d beginning 0 d 0 piece
 unfolding listing
 so-far-none s d piece e =
-    record { done = []; wrote = wrote-none d 0 (omega arith); rest = rw e; to = omega arith; sound = sound-beginning }
+    record { done = []; wrote = wrote-none d 0 (omega arith); rest = rw e; to = omega arith }
 
 pub so-far-more :
     {s d out out' text : List ℕ} {t : Trace} {from at at' : ℕ} {piece : List ℕ} {a : Turn}
     → SoFar s d t from out at piece → from < length s → Wrote out at piece out' at' → Turned t (drop from s) text a
     → SoFar s d (a .state) (from + a .used) out' at' (take (a .length) text)
 so-far-more {s = s} {text = text} {t = t} {from = from} {piece = piece} {a = a} f h w turned =
-    let left = turn-left (f .sound) (omega (arith, length-drop from s)) turned in
+    let left = turn-left (omega (arith, length-drop from s)) turned in
     record {
       done = f .done ++ piece;
       wrote = wrote-then (f .wrote) w;
       rest = f .rest ∙ rw (left .lines, drop-drop (a .used) from s) (sym (append-assoc (f .done) piece _));
       to = omega (arith, left .few, length-drop from s);
-      sound = left .sound;
     }
 
 module _ {s d : List ℕ} {t : Trace} {from : ℕ} {out : List ℕ} {at : ℕ} {piece : List ℕ} (f : SoFar s d t from out at piece) where

@@ -1,5 +1,5 @@
 pub mod Apply
 pub mod Listing
+pub mod Along
 pub mod Steps
-pub mod Stepping
 pub mod Turns

@@ -1,5 +1,5 @@
 // A trace: what each record does to the estimator, and the listing. No public function asks anything of its caller.
-mod answers;
+mod kinds;
 pub mod listing;
 mod rows;
 pub mod steps;

@@ -1,32 +1,31 @@
 // One record at a time.
 use crate::Trace;
-use crate::answers::answer_to;
-use crate::rows::put_rows;
+use crate::kinds::refuse;
+use crate::kinds::step_block;
+use crate::kinds::step_reset;
+use crate::kinds::step_settings;
 use aec3_common::counts::one_more;
 use aec3_common::refusal::ACCEPTED;
 use aec3_common::refusal::BAD_FRAME;
-use aec3_common::refusal::BAD_RING;
 use aec3_common::refusal::BAD_STATE;
+use aec3_common::refusal::UNKNOWN_KIND;
+use aec3_common::settings::capture_channels_ok;
 use erle_estimator::ErleEstimator;
 use erle_estimator::ErleSettings;
-use trace_records::Standing;
-use trace_records::band_in;
-use trace_records::form_refusal;
-use trace_records::kind_of;
-use trace_records::records::BLOCK_KIND;
-use trace_records::records::SETTINGS_KIND;
+use trace_records::Decoded;
+use trace_records::decode;
 use trace_text::put_refused;
 ghost use mathlib.Core.Path.{_≡_};
-ghost use Prim.Native.Nat.{_+_, _≤_};
+ghost use Prim.Native.Nat.{_+_};
 ghost use lib.Dec.{leb};
-ghost use lib.ListN.{length};
 ghost use Rattle.aec3_common.specs.Counts.{oneMore};
 ghost use Rattle.aec3_common.specs.Refusal.{badFrame};
-ghost use Rattle.encoding.specs.Text.{laid, written, after};
-ghost use Rattle.trace_records.specs.Records.{kindOf, blockKind};
-ghost use Rattle.trace_text.specs.Text.{refused, line, lines};
-ghost use Rattle.trace.specs.Apply.{beginning as Apply·beginning, channelsOf, bandAfter, blocksAfter, rowsIf};
-ghost use Rattle.trace.specs.Steps.{refusalText, RefusedBy, stepAnswer, stepOver};
+ghost use Rattle.encoding.specs.Text.{written, after};
+ghost use Rattle.trace_text.specs.Text.{refused, line};
+ghost use Rattle.trace.specs.Apply.{beginning as Apply·beginning, traceOk};
+ghost use Rattle.trace.specs.Listing.{recordAt};
+ghost use Rattle.trace.specs.Along.{JudgedAlone};
+ghost use Rattle.trace.specs.Steps.{stepAnswer, stepOver};
 
 // Room enough for the lines of a record: four rows of at most 49 bytes.
 pub const MOST_TEXT: usize = 196;
@@ -42,6 +41,7 @@ pub struct Stepped {
 // Before the first record.
 pub fn beginning() -> Trace
     ensures { λ r. ⌜ r ≡ Apply·beginning ⌝ }
+    ensures { λ r. ⌜ JudgedAlone r ⌝ }
 {
     let settings = ErleSettings {
         min: 0.0,
@@ -76,71 +76,16 @@ pub fn has_room(size: usize, at: usize) -> bool
     }
 }
 
-fn band_after(band: usize, record: &[u8]) -> usize
-    ensures { λ r. ⌜ r ≡ bandAfter band (now («record» .entry)) ⌝ }
+// Whether number 20 lets the state pass.
+pub fn state_ok(t: Trace) -> bool
+    ensures { λ r. ⌜ r ≡ traceOk t ⌝ }
 {
-    if kind_of(record) == SETTINGS_KIND {
-        band_in(record)
+    let estimator = t.estimator;
+    let settings = estimator.settings;
+    if capture_channels_ok(settings.num_capture_channels) {
+        estimator.ok() & ((settings.num_sections == 1) & (settings.delay_headroom_samples == 0))
     } else {
-        band
-    }
-}
-
-fn blocks_after(blocks: u32, record: &[u8]) -> u32
-    ensures { λ r. ⌜ r ≡ blocksAfter blocks (now («record» .entry)) ⌝ }
-{
-    if kind_of(record) == BLOCK_KIND {
-        one_more(blocks)
-    } else {
-        blocks
-    }
-}
-
-// The lines of an accepted record.
-fn put_lines(
-    out: &mut [u8],
-    at: usize,
-    record: &[u8],
-    estimator: ErleEstimator,
-    band: usize,
-    blocks: u32,
-) -> usize
-    requires { ⌜ (kindOf (now «record») ≡ blockKind → channelsOf estimator ≤ 4) ⌝ }
-    requires { ⌜ at + 196 ≤ length (now out) ⌝ }
-    ensures { λ _. ⌜ now (out .exit) ≡ laid (now (out .entry)) at (lines (rowsIf (now («record» .entry)) estimator band blocks)) ⌝ }
-    ensures { λ r. ⌜ r ≡ at + length (lines (rowsIf (now («record» .entry)) estimator band blocks)) ⌝ }
-{
-    if kind_of(record) == BLOCK_KIND {
-        put_rows(out, at, estimator, band, blocks)
-    } else {
-        at
-    }
-}
-
-// The line of a refused record, behind so many records; none where the state is to blame.
-fn put_refusal(out: &mut [u8], at: usize, refused: u32, records: u32) -> usize
-    requires { ⌜ at + 196 ≤ length (now out) ⌝ }
-    ensures { λ _. ⌜ now (out .exit) ≡ laid (now (out .entry)) at (refusalText records refused) ⌝ }
-    ensures { λ r. ⌜ r ≡ at + length (refusalText records refused) ⌝ }
-{
-    if (refused == BAD_STATE) | (refused == BAD_RING) {
-        at
-    } else {
-        put_refused(out, at, refused, one_more(records))
-    }
-}
-
-// A refused record: its line, and the state as it was.
-fn refuse(t: Trace, refused: u32, out: &mut [u8], at: usize) -> Stepped
-    requires { ⌜ at + 196 ≤ length (now out) ⌝ }
-    ensures { λ a. ⌜ RefusedBy t refused (now (out .entry)) at (now (out .exit)) a ⌝ }
-{
-    let at = put_refusal(out, at, refused, t.records);
-    Stepped {
-        state: t,
-        at,
-        refused,
-        fits: true,
+        true
     }
 }
 
@@ -153,10 +98,10 @@ pub fn put_bad_frame(out: &mut [u8], at: usize, records: u32) -> usize
 }
 
 // One record: its lines from a place on, and the next state; or, if it is refused, the line that says so, and the state as it was. Under
-// 20 or 4 nothing is written: the state is to blame, and no record. Without room for 196 bytes nothing happens, and `fits` is false.
+// 20 nothing is written: the state is to blame, and no record. Without room for 196 bytes nothing happens, and `fits` is false.
 pub fn step(t: Trace, record: &[u8], out: &mut [u8], at: usize) -> Stepped
-    ensures { λ a. ⌜ a ≡ stepAnswer t (now («record» .entry)) (now (out .entry)) at ⌝ }
-    ensures { λ _. ⌜ now (out .exit) ≡ stepOver t (now («record» .entry)) (now (out .entry)) at ⌝ }
+    ensures { λ a. ⌜ a ≡ stepAnswer t (recordAt t (now («record» .entry))) (now (out .entry)) at ⌝ }
+    ensures { λ _. ⌜ now (out .exit) ≡ stepOver t (recordAt t (now («record» .entry))) (now (out .entry)) at ⌝ }
 {
     if !has_room(out.len(), at) {
         return Stepped {
@@ -166,33 +111,19 @@ pub fn step(t: Trace, record: &[u8], out: &mut [u8], at: usize) -> Stepped
             fits: false,
         };
     }
-    let estimator = t.estimator;
-    let standing = Standing {
-        num_capture_channels: estimator.settings.num_capture_channels,
-    };
-    let refused = form_refusal(standing, record);
-    if refused != ACCEPTED {
-        return refuse(t, refused, out, at);
+    if !state_ok(t) {
+        return Stepped {
+            state: t,
+            at,
+            refused: BAD_STATE,
+            fits: true,
+        };
     }
-    let answer = answer_to(estimator, record);
-    if answer.refused != ACCEPTED {
-        return refuse(t, answer.refused, out, at);
-    }
-    let estimator = answer.state;
-    let band = band_after(t.band, record);
-    let blocks = blocks_after(t.blocks, record);
-    let at = put_lines(out, at, record, estimator, band, blocks);
-    let records = one_more(t.records);
-    let state = Trace {
-        estimator,
-        band,
-        blocks,
-        records,
-    };
-    Stepped {
-        state,
-        at,
-        refused: ACCEPTED,
-        fits: true,
+    let decoded = decode(record);
+    match decoded {
+        Decoded::Settings(settings) => step_settings(t, record.len(), settings, out, at),
+        Decoded::Block => step_block(t, record, out, at),
+        Decoded::Reset(delay_flag) => step_reset(t, record.len(), delay_flag, out, at),
+        Decoded::Unknown => refuse(t, UNKNOWN_KIND, out, at),
     }
 }

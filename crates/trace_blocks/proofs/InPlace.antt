@@ -13,28 +13,31 @@ use Rattle.aec3_common.specs.Calls.{valuesInRange}
 use Rattle.aec3_common.specs.Counts.{oneMore}
 use Rattle.aec3_common.specs.Lists.{tab}
 use Rattle.aec3_common.specs.Refusal.{accepted}
+use Rattle.aec3_common.specs.Settings.{captureChannelsOk}
 use Rattle.aec3_common.specs.Streams.{erleOf}
-use Rattle.aec3_common.proofs.Choices.{and-left, and-right, each-of-three, passed, first-of-passed}
+use Rattle.aec3_common.proofs.Choices.{and-left, and-right, each-of-three, passed, later-passed}
 use Rattle.encoding.specs.Text.{laid}
 use Rattle.erle_estimator.specs.declared.ErleEstimator.{ErleEstimator}
-use Rattle.erle_estimator.specs.declared.ErleAnswer.{ErleAnswer}
 use Rattle.erle_estimator.specs.Erle.{Update, stateOk, updateRefusal, counted, updated, afterAccepted, updateAnswer, sectioned, erleShown, streamsShown}
-use Rattle.erle_estimator.proofs.Judged.{accepted-call}
 use Rattle.trace_records.specs.declared.judge.Standing.{Standing}
+use Rattle.trace_records.specs.declared.records.Decoded.{Decoded}
+use Rattle.trace_records.specs.declared.records.Decoded.the-variants.{Settings, Block, Reset, Unknown}
 use Rattle.trace_records.specs.Frames.{lengthIn, framed, recordIn, frameLength}
-use Rattle.trace_records.specs.Records.{kindOf, blockKind, bandIn, renderIn, captureIn, residualIn}
-use Rattle.trace_records.specs.Judge.{formRefusal, blockValues}
+use Rattle.trace_records.specs.Records.{Record, settings, block, reset, unknown, settingsIn, blockIn, delayFlagIn, kindOf, settingsKind, blockKind, resetKind, decoded}
+use Rattle.trace_records.specs.Judge.{judgedWith, valueRefusal, recordRefusal}
+use Rattle.trace_records.specs.Steps.{recordFrom}
 use Rattle.trace_records.proofs.Framing.{framed-least, framed-most, framed-room, framed-length, length-framed, no-length-framed}
-use Rattle.trace_records.proofs.Judged.{by-block, BlockOk, block-ok}
+use Rattle.trace_records.proofs.Judged.{BlockOk, block-ok, block-form-passed, block-accepted-form}
 use Rattle.trace_text.specs.Text.{Item, lines}
 use Rattle.trace.specs.declared.Trace.{Trace}
 use Rattle.trace.specs.declared.steps.Stepped.{Stepped}
-use Rattle.trace.specs.Apply.{channelsOf, standingOf, updateIn, answerOf, bandAfter, blocksAfter, nextOf, rowOf, rowAt, rowsIf, rowsOf}
-use Rattle.trace_blocks.specs.Blocks.{Walk, oneSectionNoHeadroom, further, takes, walk, isBlockFrame, blockFrameLength, subbandRow}
-use Rattle.trace.specs.Steps.{mostText, stepRefusal, stepAnswer, stepOver}
-use Rattle.trace.proofs.Judged.{update-judged}
+use Rattle.trace.specs.Apply.{channelsOf, standingOf, oneSectionNoHeadroom, traceOk, updateIn, estimatorAfter, bandAfter, blocksAfter, nextOf, rowOf, rowAt, rowsAt, rowsOf}
+use Rattle.trace.specs.Listing.{recordAt, refusalAt}
+use Rattle.trace_blocks.specs.Blocks.{Walk, isBlock, further, takes, walk, isBlockFrame, blockFrameLength, subbandRow}
+use Rattle.trace.specs.Steps.{mostText, stepAnswer, stepOver}
+use Rattle.trace.proofs.Judged.{update-judged, passing}
 use Rattle.trace_blocks.proofs.Moving.{subbandAt, moved-at}
-use Rattle.trace.proofs.Stepping.{by-answer, step-accepted}
+use Rattle.trace.proofs.Stepping.{step-accepted}
 
 -- ---- walks
 
@@ -78,14 +81,12 @@ each-of-these true true false d e = absurd (false≢true e)
 each-of-these true false c d e = absurd (false≢true e)
 each-of-these false b c d e = absurd (false≢true e)
 
-each-of-six :
-    (a b c d e f : Bool) → a && b && c && d && e && f ≡ true
-    → (a ≡ true) × (b ≡ true) × (c ≡ true) × (d ≡ true) × (e ≡ true) × (f ≡ true)
-each-of-six a b c d e f all =
-    let five = and-left (a && b && c && d && e) f all in
-    let four = and-left (a && b && c && d) e five in
-    let (first, second, third, fourth) = each-of-these a b c d four in
-    (first, second, third, fourth, and-right (a && b && c && d) e five, and-right (a && b && c && d && e) f all)
+each-of-five :
+    (a b c d e : Bool) → a && b && c && d && e ≡ true
+    → (a ≡ true) × (b ≡ true) × (c ≡ true) × (d ≡ true) × (e ≡ true)
+each-of-five a b c d e all =
+    let (first, second, third, fourth) = each-of-these a b c d (and-left (a && b && c && d) e all) in
+    (first, second, third, fourth, and-right (a && b && c && d) e all)
 
 -- ---- a whole record
 
@@ -110,68 +111,85 @@ whole-is s is some =
 
 -- ---- a block frame
 
-pub record BlockFrame (g : ErleSettings) (s : List ℕ) : Type 0 where
+-- the block that a record is under so many channels
+abbrev blockOf : Standing → List ℕ → Record
+blockOf st r = block (length r) (blockIn (st .«num_capture_channels») r)
+
+pub record BlockFrame (st : Standing) (s : List ℕ) : Type 0 where
   pub whole : framed s ≡ true
-  pub kind : kindOf (recordIn s) ≡ blockKind
-  pub form : formRefusal (record { «num_capture_channels» = g .«num_capture_channels» }) (recordIn s) ≡ accepted
-  pub section : g .«num_sections» ≡ 1
-  pub flat : g .«delay_headroom_samples» ≡ 0
+  pub kind : decoded st (recordIn s) ≡ blockOf st (recordIn s)
+  pub form : judgedWith st (blockOf st (recordIn s)) accepted ≡ accepted
 
-module _ (g : ErleSettings) (s : List ℕ) where
-  abbrev isBlock : Bool
-  isBlock = eqb (kindOf (recordIn s)) blockKind
+-- a record that is decoded to a block
+block-is : (st : Standing) (r : List ℕ) → isBlock (decoded st r) ≡ true → decoded st r ≡ blockOf st r
+unfolding decoded isBlock
+block-is st r = go (eqb (kindOf r) settingsKind) (eqb (kindOf r) blockKind) (eqb (kindOf r) resetKind)
+  where
+    by : Bool → Bool → Bool → Record
+    by a b c = cond a (settings (length r) (settingsIn r)) (cond b (blockOf st r) (cond c (reset (length r) (delayFlagIn r)) unknown))
 
+    go : (a b c : Bool) → isBlock (by a b c) ≡ true → by a b c ≡ blockOf st r
+    go true b c e = absurd (false≢true e)
+    go false true c e = refl
+    go false false true e = absurd (false≢true e)
+    go false false false e = absurd (false≢true e)
+
+module _ (st : Standing) (s : List ℕ) where
   abbrev formOk : Bool
-  formOk = eqb (formRefusal (record { «num_capture_channels» = g .«num_capture_channels» }) (recordIn s)) accepted
+  formOk = eqb (judgedWith st (decoded st (recordIn s)) accepted) accepted
 
-  pub frame-of : isBlockFrame g s ≡ true → BlockFrame g s
+  pub frame-of : isBlockFrame st s ≡ true → BlockFrame st s
   unfolding isBlockFrame
   frame-of all =
-      let one = eqb (g .«num_sections») 1 in
-      let flat = eqb (g .«delay_headroom_samples») 0 in
-      let (whole, two, form) = each-of-three (framed s) ((one && flat) && isBlock) formOk all in
-      let settings = and-left (one && flat) isBlock two in
-      record {
-        whole = whole;
-        kind = eqb-true _ _ (and-right (one && flat) isBlock two);
-        form = eqb-true _ _ form;
-        section = eqb-true _ _ (and-left one flat settings);
-        flat = eqb-true _ _ (and-right one flat settings);
-      }
+      let (whole, is, form) = each-of-three (framed s) (isBlock (decoded st (recordIn s))) formOk all in
+      let kind = block-is st (recordIn s) is in
+      record { whole = whole; kind = kind; form = rw kind at (eqb-true (judgedWith st (decoded st (recordIn s)) accepted) accepted form) }
 
-  pub is-frame : BlockFrame g s → isBlockFrame g s ≡ true
-  unfolding isBlockFrame
-  is-frame p = simp (p .whole, eq-eqb _ _ (p .kind), eq-eqb _ _ (p .form), eq-eqb _ _ (p .section), eq-eqb _ _ (p .flat))
+  pub is-frame : BlockFrame st s → isBlockFrame st s ≡ true
+  unfolding isBlockFrame isBlock
+  is-frame p = rw (p .kind) (simp (p .whole, eq-eqb _ _ (p .form)))
 
   -- a length is given for a block frame
-  pub some-frame : 0 < blockFrameLength g s → BlockFrame g s
+  pub some-frame : 0 < blockFrameLength st s → BlockFrame st s
   unfolding blockFrameLength
-  some-frame some = go (isBlockFrame g s) refl
+  some-frame some = go (isBlockFrame st s) refl
     where
-      go : (t : Bool) → isBlockFrame g s ≡ t → BlockFrame g s
+      go : (t : Bool) → isBlockFrame st s ≡ t → BlockFrame st s
       go true e = frame-of e
       go false e = absurd (omega (arith, rw e at some))
 
-  pub frame-long : BlockFrame g s → blockFrameLength g s ≡ lengthIn s
+  pub frame-long : BlockFrame st s → blockFrameLength st s ≡ lengthIn s
   unfolding blockFrameLength
   frame-long p = rw (is-frame p)
 
   -- bytes that begin with no whole record
-  pub frame-none : frameLength s ≡ 0 → 0 ≡ blockFrameLength g s
+  pub frame-none : frameLength s ≡ 0 → 0 ≡ blockFrameLength st s
   unfolding blockFrameLength isBlockFrame
   frame-none none = sym (rw (no-length-framed s none))
 
-  -- the tests of `block_frame_length`
-  pub frame-by :
-      {n : ℕ} → Whole s n → {kind form : ℕ}
-      → kind ≡ kindOf (take (4 + n - 4) (drop 4 s)) → form ≡ formRefusal (record { «num_capture_channels» = g .«num_capture_channels» }) (take (4 + n - 4) (drop 4 s))
-      → (t : Bool) → (oneSectionNoHeadroom g && eqb kind blockKind) && eqb form accepted ≡ t → cond t n 0 ≡ blockFrameLength g s
-  unfolding blockFrameLength isBlockFrame
-  frame-by {n} w {kind} {form} of-kind of-form t e =
-      let size : 4 + n - 4 ≡ lengthIn s = omega (arith, w .long) in
-      let same-kind = rw size at of-kind in
-      let same-form = rw size at of-form in
-      sym (rw (w .whole, ← same-kind, ← same-form, e, w .long))
+  module _ {n : ℕ} (w : Whole s n) where
+    abbrev lent : List ℕ
+    lent = take (4 + n - 4) (drop 4 s)
+
+    lent-is : lent ≡ recordIn s
+    lent-is = let size : 4 + n - 4 ≡ lengthIn s = omega (arith, w .long) in rw size
+
+    -- a block, by its form
+    pub frame-by :
+        {form : ℕ} → recordFrom st lent Block ≡ decoded st lent → form ≡ judgedWith st (blockOf st lent) accepted
+        → (t : Bool) → eqb form accepted ≡ t → cond t n 0 ≡ blockFrameLength st s
+    unfolding blockFrameLength isBlockFrame isBlock recordFrom
+    frame-by kind form t e =
+        let is = rw lent-is at kind in
+        let same = rw lent-is at form in
+        sym (rw (w .whole, ← is, ← same, e, w .long))
+
+    -- another kind
+    pub frame-other : (d : Decoded) → recordFrom st lent d ≡ decoded st lent → isBlock (recordFrom st lent d) ≡ false → 0 ≡ blockFrameLength st s
+    unfolding blockFrameLength isBlockFrame
+    frame-other d kind other =
+        let is : isBlock (decoded st (recordIn s)) ≡ false = rw lent-is at (sym (ap isBlock kind) ∙ other) in
+        sym (rw (w .whole, is))
 
 -- the record, as the part of the input that is lent
 pub record-ahead :
@@ -185,99 +203,120 @@ pub lent-ahead : (s : List ℕ) (used : ℕ) → take (length s - used) (drop us
 lent-ahead s used = take-all (length s - used) (drop used s) (omega (arith, length-drop used s))
 
 -- where the record ends
-pub frame-ends : (s : List ℕ) (used : ℕ) {g : ErleSettings} → used ≤ length s → BlockFrame g (drop used s) → used + 4 + lengthIn (drop used s) ≤ length s
+pub frame-ends : (s : List ℕ) (used : ℕ) {st : Standing} → used ≤ length s → BlockFrame st (drop used s) → used + 4 + lengthIn (drop used s) ≤ length s
 frame-ends s used within frame = omega (arith, framed-room (drop used s) (frame .whole), length-drop used s)
 
 -- ---- a block
 
-module _ (t : Trace) (s : List ℕ) (frame : BlockFrame (t .estimator .settings) s) where
+module _ (t : Trace) (s : List ℕ) (frame : BlockFrame (standingOf t) s) where
   abbrev e : ErleEstimator
   e = t .estimator
 
-  abbrev r : List ℕ
-  r = recordIn s
+  abbrev bytes : List ℕ
+  bytes = recordIn s
+
+  abbrev r : Record
+  r = blockOf (standingOf t) bytes
 
   -- the update that it is
   abbrev pub blockUpdate : Update
-  blockUpdate = updateIn (channelsOf e) r
+  blockUpdate = updateIn (channelsOf e) (blockIn (channelsOf e) bytes)
 
-  pub block-form : BlockOk (standingOf e) r
-  block-form = block-ok (standingOf e) r (frame .form) (frame .kind)
+  pub block-form : BlockOk (standingOf t) (length bytes) (blockIn (channelsOf e) bytes)
+  block-form = block-ok (standingOf t) _ _ accepted (frame .form)
 
   -- the estimator and the rows after it
   abbrev after : ErleEstimator
   after = updated (counted e) blockUpdate
 
-  module _
-      (ok : stateOk e ≡ true) (values : valuesInRange (renderIn (channelsOf e) r) (captureIn (channelsOf e) r) (residualIn (channelsOf e) r) ≡ true)
-      (started : e .«startup_phase_length_blocks» ≤ oneMore (e .«blocks_since_reset»))
-    where
-      update-passes : updateRefusal e blockUpdate ≡ accepted
-      unfolding blockValues
-      update-passes = update-judged (channelsOf e) r e refl ok (frame .flat) ∙ rw values
+  module _ (ok : traceOk t ≡ true) where
+    pub block-passing : (stateOk e ≡ true) × (e .settings .«num_sections» ≡ 1) × (e .settings .«delay_headroom_samples» ≡ 0)
+    block-passing = passing t (block-form .some) (block-form .few) ok
 
-      answer-is : answerOf e r ≡ record { state = after; refused = accepted }
-      unfolding answerOf updateAnswer afterAccepted counted
-      answer-is =
-          by-block (kindOf r) _ _ _ _ (frame .kind)
-          ∙ rw (update-passes, le-ltb (oneMore (e .«blocks_since_reset»)) (e .«startup_phase_length_blocks») started)
+    module _
+        (values : (let b = blockIn (channelsOf e) bytes in valuesInRange (b .render) (b .capture) (b .residual)) ≡ true)
+        (started : e .«startup_phase_length_blocks» ≤ oneMore (e .«blocks_since_reset»))
+      where
+        passes : recordRefusal (standingOf t) r ≡ accepted
+        unfolding valueRefusal
+        passes = block-form-passed (standingOf t) _ _ (frame .form) ∙ rw values
 
-      passes : stepRefusal t r ≡ accepted
-      passes = sym (by-answer t r (frame .form) (sym (ap (λ (a : ErleAnswer). a .refused) answer-is)))
+        update-passes : updateRefusal e blockUpdate ≡ accepted
+        unfolding valueRefusal
+        update-passes = update-judged (channelsOf e) bytes e refl (block-passing .0) (block-passing .2) ∙ rw values
 
-      next-is : nextOf t r ≡ record { estimator = after; band = t .band; blocks = oneMore (t .blocks); records = oneMore (t .records) }
-      unfolding nextOf bandAfter blocksAfter
-      next-is =
-          λ i. record {
-            estimator = answer-is i .state;
-            band = by-block (kindOf r) (bandIn r) (t .band) (t .band) (t .band) (frame .kind) i;
-            blocks = by-block (kindOf r) (t .blocks) (oneMore (t .blocks)) (t .blocks) (t .blocks) (frame .kind) i;
-            records = oneMore (t .records);
-          }
+        estimator-is : estimatorAfter e r ≡ after
+        unfolding estimatorAfter updateAnswer afterAccepted counted
+        estimator-is = rw (update-passes, le-ltb (oneMore (e .«blocks_since_reset»)) (e .«startup_phase_length_blocks») started)
 
-      rows-are : rowsOf t r ≡ tab (channelsOf e) (rowAt after (t .band) (oneMore (t .blocks)))
-      unfolding rowsOf rowsIf updated counted
-      rows-are = rw next-is (by-block (kindOf r) [] (tab (channelsOf e) (rowAt after (t .band) (oneMore (t .blocks)))) [] [] (frame .kind))
+        next-is : nextOf t r ≡ record { estimator = after; band = t .band; blocks = oneMore (t .blocks); records = oneMore (t .records) }
+        unfolding nextOf bandAfter blocksAfter
+        next-is = rw estimator-is
 
-      pub block-stepped :
-          (d : List ℕ) (at : ℕ) → leb (at + mostText) (length d) ≡ true
-          → {next : ErleEstimator} {blocks records : ℕ} {out : List ℕ} {end : ℕ}
-          → next ≡ after → blocks ≡ oneMore (t .blocks) → records ≡ oneMore (t .records)
-          → (let all = lines (tab (channelsOf e) (rowAt next (t .band) blocks)) in (out ≡ laid d at all) × (end ≡ at + length all))
-          → (record {
-            state = record { estimator = next; band = t .band; blocks = blocks; records = records };
-            refused = accepted;
-            at = end;
-            fits = true;
-          }
-          ≡ stepAnswer t r d at)
-          × (out ≡ stepOver t r d at)
-      block-stepped d at room moved block number (text, place) =
-          let all = (λ i. lines (tab (channelsOf e) (rowAt (moved i) (t .band) (block i)))) ∙ ap lines (sym rows-are) in
-          step-accepted t r d at room passes
-          ((λ i. record { estimator = moved i; band = t .band; blocks = block i; records = number i }) ∙ sym next-is)
-          (text ∙ ap (laid d at) all, place ∙ ap (λ l. at + length l) all)
+        rows-are : rowsOf t r ≡ tab (channelsOf e) (rowAt after (t .band) (oneMore (t .blocks)))
+        unfolding rowsOf rowsAt updated counted
+        rows-are = rw next-is
+
+        pub block-stepped :
+            (d : List ℕ) (at : ℕ) → leb (at + mostText) (length d) ≡ true
+            → {next : ErleEstimator} {blocks records : ℕ} {out : List ℕ} {end : ℕ}
+            → next ≡ after → blocks ≡ oneMore (t .blocks) → records ≡ oneMore (t .records)
+            → (let all = lines (tab (channelsOf e) (rowAt next (t .band) blocks)) in (out ≡ laid d at all) × (end ≡ at + length all))
+            → (record {
+              state = record { estimator = next; band = t .band; blocks = blocks; records = records };
+              refused = accepted;
+              at = end;
+              fits = true;
+            }
+            ≡ stepAnswer t (recordAt t bytes) d at)
+            × (out ≡ stepOver t (recordAt t bytes) d at)
+        block-stepped d at room moved count number (text, place) =
+            let all = (λ i. lines (tab (channelsOf e) (rowAt (moved i) (t .band) (count i)))) ∙ ap lines (sym rows-are) in
+            rw (frame .kind)
+            (step-accepted t r d at room ok passes
+            ((λ i. record { estimator = moved i; band = t .band; blocks = count i; records = number i }) ∙ sym next-is)
+            (text ∙ ap (laid d at) all, place ∙ ap (λ l. at + length l) all)
+            refl)
+
+-- ---- number 20 of two states with the same settings
+
+module _ (t u : Trace) (same : u .estimator .settings ≡ t .estimator .settings) (some : 1 ≤ channelsOf (t .estimator)) (few : channelsOf (t .estimator) ≤ 4) where
+  as-many : channelsOf (u .estimator) ≡ channelsOf (t .estimator)
+  as-many = ap (λ (g : ErleSettings). g .«num_capture_channels») same
+
+  -- it lets the later one pass if it lets its estimator pass
+  pub same-but-records : traceOk t ≡ true → stateOk (u .estimator) ≡ true → traceOk u ≡ true
+  unfolding traceOk
+  same-but-records before ok =
+      let g = t .estimator .settings in
+      let (_, section, flat) = passing t some few before in
+      let standing : captureChannelsOk (channelsOf (u .estimator)) ≡ true =
+      ap (λ (x : ErleSettings). captureChannelsOk (x .«num_capture_channels»)) same ∙ rw (le-leb 1 (channelsOf (t .estimator)) some, le-leb (channelsOf (t .estimator)) 4 few) in
+      let given : oneSectionNoHeadroom (u .estimator .settings) ≡ true =
+      ap oneSectionNoHeadroom same ∙ simp (eq-eqb (g .«num_sections») 1 section, eq-eqb (g .«delay_headroom_samples») 0 flat) in
+      rw (standing, ok, given)
+
+  pub records-pass : traceOk u ≡ true → stateOk (u .estimator) ≡ true
+  records-pass after = passing u (omega (arith, as-many)) (omega (arith, as-many)) after .0
 
 -- the walk goes on by it
 pub walk-on :
     {s : List ℕ} {from : Walk} {t : Trace} {used : ℕ} {d : List ℕ} {at : ℕ} {n : ℕ} {next : Trace} {out : List ℕ} {end : ℕ}
-    → OnItsWay s from (record { state = t; used = used; out = d; at = at }) → BlockFrame (t .estimator .settings) (drop used s) → n ≡ lengthIn (drop used s)
+    → OnItsWay s from (record { state = t; used = used; out = d; at = at }) → BlockFrame (standingOf t) (drop used s) → n ≡ lengthIn (drop used s)
     → t .estimator .«startup_phase_length_blocks» ≤ oneMore (t .estimator .«blocks_since_reset»)
-    → (record { state = next; refused = accepted; at = end; fits = true } ≡ stepAnswer t (recordIn (drop used s)) d at)
-    × (out ≡ stepOver t (recordIn (drop used s)) d at)
+    → (record { state = next; refused = accepted; at = end; fits = true } ≡ stepAnswer t (recordAt t (recordIn (drop used s))) d at)
+    × (out ≡ stepOver t (recordAt t (recordIn (drop used s))) d at)
     → OnItsWay s from (record { state = next; used = used + 4 + n; out = out; at = end })
-unfolding further takes
+unfolding further takes isBlock
 walk-on {s} {used = used} {n = n} way frame long started (answer, over) =
     let behind : used + 4 + n ≡ used + (4 + lengthIn (drop used s)) = omega (arith, long) in
     walk-more way
     (simp (
       frame .whole,
-      eq-eqb _ _ (frame .kind),
+      ap isBlock (frame .kind),
       ap (λ (a : Stepped). a .fits) (sym answer),
       eq-eqb _ _ (ap (λ (a : Stepped). a .refused) (sym answer)),
       le-leb _ _ started,
-      eq-eqb _ _ (frame .section),
-      eq-eqb _ _ (frame .flat),
     ))
     (omega (arith, framed-room (drop used s) (frame .whole), length-drop used s))
     (omega arith)
@@ -289,19 +328,18 @@ module _ (s : List ℕ) (w : Walk) (taken : takes s w ≡ true) where
   abbrev held : Trace
   held = w .state
 
-  abbrev bytes : List ℕ
-  bytes = drop (w .used) s
+  abbrev left : List ℕ
+  left = drop (w .used) s
 
-  abbrev next-record : List ℕ
-  next-record = recordIn bytes
+  abbrev next-record : Record
+  next-record = recordAt held (recordIn left)
 
   each-test :
-      (framed bytes ≡ true) × (eqb (kindOf next-record) blockKind ≡ true) × (stepAnswer held next-record (w .out) (w .at) .fits ≡ true)
+      (framed left ≡ true) × (isBlock next-record ≡ true) × (stepAnswer held next-record (w .out) (w .at) .fits ≡ true)
       × (eqb (stepAnswer held next-record (w .out) (w .at) .refused) accepted ≡ true)
       × (leb (held .estimator .«startup_phase_length_blocks») (oneMore (held .estimator .«blocks_since_reset»)) ≡ true)
-      × (oneSectionNoHeadroom (held .estimator .settings) ≡ true)
   unfolding takes
-  each-test = each-of-six _ _ _ _ _ _ taken
+  each-test = each-of-five _ _ _ _ _ taken
 
   pub taken-room : leb (w .at + mostText) (length (w .out)) ≡ true
   unfolding stepAnswer
@@ -311,49 +349,43 @@ module _ (s : List ℕ) (w : Walk) (taken : takes s w ≡ true) where
       go true e = refl
       go false e = rw e at (each-test .2)
 
-  accepted-step : stepRefusal held next-record ≡ accepted
+  accepted-step : refusalAt held next-record ≡ accepted
   unfolding stepAnswer
   accepted-step = rw taken-room at (eqb-true (stepAnswer held next-record (w .out) (w .at) .refused) accepted (each-test .3))
 
-  by-form-and-answer : (formRefusal (standingOf (held .estimator)) next-record ≡ accepted) × (answerOf (held .estimator) next-record .refused ≡ accepted)
-  unfolding stepRefusal
-  by-form-and-answer = first-of-passed _ _ accepted-step
+  pub taken-state : traceOk held ≡ true
+  unfolding refusalAt
+  taken-state = passed (traceOk held) 19 (recordRefusal (standingOf held) next-record) accepted-step
 
-  pub taken-frame : BlockFrame (held .estimator .settings) bytes
-  taken-frame =
-      let g = held .estimator .settings in
-      let settings = each-test .5 in
-      record {
-        whole = each-test .0;
-        kind = eqb-true _ _ (each-test .1);
-        form = by-form-and-answer .0;
-        section = eqb-true _ _ (and-left (eqb (g .«num_sections») 1) (eqb (g .«delay_headroom_samples») 0) settings);
-        flat = eqb-true _ _ (and-right (eqb (g .«num_sections») 1) (eqb (g .«delay_headroom_samples») 0) settings);
-      }
+  own-accepted : recordRefusal (standingOf held) next-record ≡ accepted
+  unfolding refusalAt
+  own-accepted = later-passed (traceOk held) 19 (recordRefusal (standingOf held) next-record) accepted-step
+
+  kind : next-record ≡ blockOf (standingOf held) (recordIn left)
+  kind = block-is (standingOf held) (recordIn left) (each-test .1)
+
+  block-accepted : recordRefusal (standingOf held) (blockOf (standingOf held) (recordIn left)) ≡ accepted
+  block-accepted = sym (ap (recordRefusal (standingOf held)) kind) ∙ own-accepted
+
+  pub taken-frame : BlockFrame (standingOf held) left
+  taken-frame = record { whole = each-test .0; kind = kind; form = block-accepted-form (standingOf held) _ _ block-accepted }
 
   pub taken-started : leb (held .estimator .«startup_phase_length_blocks») (oneMore (held .estimator .«blocks_since_reset»)) ≡ true
   taken-started = each-test .4
 
-  update-accepted : updateRefusal (held .estimator) (updateIn (channelsOf (held .estimator)) next-record) ≡ accepted
-  unfolding answerOf updateAnswer
-  update-accepted = sym (ap (λ (a : ErleAnswer). a .refused) (by-block (kindOf next-record) _ _ _ _ (taken-frame .kind))) ∙ by-form-and-answer .1
-
-  pub taken-state : stateOk (held .estimator) ≡ true
-  taken-state = accepted-call (held .estimator) (updateIn (channelsOf (held .estimator)) next-record) update-accepted .state
-
   pub taken-values :
-      let n = channelsOf (held .estimator) in
-      valuesInRange (renderIn n next-record) (captureIn n next-record) (residualIn n next-record) ≡ true
-  unfolding blockValues
+      let b = blockIn (channelsOf (held .estimator)) (recordIn left) in
+      valuesInRange (b .render) (b .capture) (b .residual) ≡ true
+  unfolding valueRefusal
   taken-values =
-      let n = channelsOf (held .estimator) in
-      passed (valuesInRange (renderIn n next-record) (captureIn n next-record) (residualIn n next-record)) 5 0
-      (sym (update-judged n next-record (held .estimator) refl taken-state (taken-frame .flat)) ∙ update-accepted)
+      let b = blockIn (channelsOf (held .estimator)) (recordIn left) in
+      passed (valuesInRange (b .render) (b .capture) (b .residual)) 5 0
+      (sym (block-form-passed (standingOf held) _ _ (taken-frame .form)) ∙ block-accepted)
 
 -- a channel's row after the block, of its subband record alone
 pub row-is :
     (s : ErleEstimator) (u : Update) → s .settings .«num_sections» ≡ 1 → s .settings .«num_capture_channels» ≤ 4
-    → (ch : ℕ) → ch < s .settings .«num_capture_channels» → (band block : ℕ)
-    → subbandRow (s .settings .«onset_detection») (subbandAt s u ch) band block ch ≡ rowAt (updated s u) band block ch
+    → (ch : ℕ) → ch < s .settings .«num_capture_channels» → (band number : ℕ)
+    → subbandRow (s .settings .«onset_detection») (subbandAt s u ch) band number ch ≡ rowAt (updated s u) band number ch
 unfolding subbandRow rowAt rowOf streamsShown erleShown sectioned erleOf updated
-row-is s u section few ch h band block = sym (rw (section, moved-at s u few ch h))
+row-is s u section few ch h band number = sym (rw (section, moved-at s u few ch h))

@@ -1,22 +1,23 @@
 -- Blocks in a row: steps, one after the other.
-use mathlib.Core.Bool.{Bool, true, cond, _&&_}
+use mathlib.Core.Bool.{Bool, true, false, cond, _&&_}
 use mathlib.Core.List.{List}
 use Prim.Native.Nat.{ℕ, zero, suc, _+_}
 use lib.Dec.{eqb, leb}
 use lib.Ieee.{nan}
 use lib.ListN.{length, drop, getD}
-use Rattle.aec3_common.specs.declared.settings.ErleSettings.{ErleSettings}
 use Rattle.aec3_common.specs.Counts.{oneMore}
 use Rattle.aec3_common.specs.Refusal.{accepted}
 use Rattle.aec3_common.specs.Streams.{erleOf}
 use Rattle.subband_erle_estimator.specs.declared.channel.SubbandChannel.{SubbandChannel}
 use Rattle.trace_records.specs.Frames.{lengthIn, framed, recordIn}
-use Rattle.trace_records.specs.Records.{kindOf, blockKind}
-use Rattle.trace_records.specs.Judge.{formRefusal}
+use Rattle.trace_records.specs.declared.judge.Standing.{Standing}
+use Rattle.trace_records.specs.Records.{Record, settings, block, reset, unknown, decoded}
+use Rattle.trace_records.specs.Judge.{judgedWith}
 use Rattle.trace_text.specs.Text.{Item, row}
 use Rattle.trace.specs.declared.Trace.{Trace}
 use Rattle.trace_blocks.specs.declared.SteppedBlocks.{SteppedBlocks}
 use Rattle.trace.specs.declared.steps.Stepped.{Stepped}
+use Rattle.trace.specs.Listing.{recordAt}
 use Rattle.trace.specs.Steps.{stepAnswer, stepOver}
 
 -- Where steps through bytes stand: the state, how many bytes are done with, what the list holds that is written to, and the place where
@@ -27,18 +28,24 @@ pub record Walk : Type 0 where
   pub out : List ℕ
   pub at : ℕ
 
--- one section and no headroom: an estimator that a trace starts has no others
-abbrev pub oneSectionNoHeadroom : ErleSettings → Bool
-oneSectionNoHeadroom g = eqb (g .«num_sections») 1 && eqb (g .«delay_headroom_samples») 0
+unfoldable pub isBlock : Record → Bool
+isBlock (settings l b) = false
+isBlock (block l b) = true
+isBlock (reset l delayFlag) = false
+isBlock unknown = false
 
 module _ (s : List ℕ) where
   -- the bytes that are left
   abbrev pub left : Walk → List ℕ
   left w = drop (w .used) s
 
-  -- what a step with the record that they begin with is answered
+  -- the record that they begin with
+  abbrev pub next : Walk → Record
+  next w = recordAt (w .state) (recordIn (left w))
+
+  -- what a step with it is answered
   abbrev pub stepped : Walk → Stepped
-  stepped w = stepAnswer (w .state) (recordIn (left w)) (w .out) (w .at)
+  stepped w = stepAnswer (w .state) (next w) (w .out) (w .at)
 
   -- where things stand after that step
   unfoldable pub further : Walk → Walk
@@ -46,21 +53,20 @@ module _ (s : List ℕ) where
       record {
         state = stepped w .state;
         used = w .used + (4 + lengthIn (left w));
-        out = stepOver (w .state) (recordIn (left w)) (w .out) (w .at);
+        out = stepOver (w .state) (next w) (w .out) (w .at);
         at = stepped w .at;
       }
 
-  -- Whether that record is taken: it is a whole block that a step finds room for and accepts, the startup phase ends with it or
-  -- before it, and the estimator has one section and no headroom.
+  -- Whether that record is taken: it is a whole block that a step finds room for and accepts, and the startup phase ends with it or
+  -- before it.
   unfoldable pub takes : Walk → Bool
   takes w =
       let e = w .state .estimator in
       framed (left w)
-      && eqb (kindOf (recordIn (left w))) blockKind
+      && isBlock (next w)
       && stepped w .fits
       && eqb (stepped w .refused) accepted
       && leb (e .«startup_phase_length_blocks») (oneMore (e .«blocks_since_reset»))
-      && oneSectionNoHeadroom (e .settings)
 
   -- at most so many steps, for as long as the next record is taken
   unfoldable pub walk : ℕ → Walk → Walk
@@ -80,19 +86,18 @@ blocksOver t s d at = walked t s d at .out
 
 -- ---- what inner functions of the code promise; no part of the definition
 
--- bytes begin with a whole block whose form passes, and the settings have one section and no headroom
-unfoldable pub isBlockFrame : ErleSettings → List ℕ → Bool
-isBlockFrame g s =
-    framed s
-    && (oneSectionNoHeadroom g && eqb (kindOf (recordIn s)) blockKind)
-    && eqb (formRefusal (record { «num_capture_channels» = g .«num_capture_channels» }) (recordIn s)) accepted
+-- bytes begin with a whole block whose form passes
+unfoldable pub isBlockFrame : Standing → List ℕ → Bool
+isBlockFrame st s =
+    let r = decoded st (recordIn s) in
+    framed s && isBlock r && eqb (judgedWith st r accepted) accepted
 
 -- its L then, else 0
-unfoldable pub blockFrameLength : ErleSettings → List ℕ → ℕ
-blockFrameLength g s = cond (isBlockFrame g s) (lengthIn s) 0
+unfoldable pub blockFrameLength : Standing → List ℕ → ℕ
+blockFrameLength st s = cond (isBlockFrame st s) (lengthIn s) 0
 
 -- a channel's row where there is one section
-unfoldable pub subbandRow : Bool → SubbandChannel → (band block ch : ℕ) → Item
-subbandRow onsetDetection subband band block ch =
+unfoldable pub subbandRow : Bool → SubbandChannel → (band number ch : ℕ) → Item
+subbandRow onsetDetection subband band number ch =
     let shown = erleOf (subband .erle) (subband .«erle_onset_compensated») true onsetDetection in
-    row block ch (getD (subband .erle) band nan) (getD shown band nan) (getD (subband .«erle_unbounded») band nan)
+    row number ch (getD (subband .erle) band nan) (getD shown band nan) (getD (subband .«erle_unbounded») band nan)

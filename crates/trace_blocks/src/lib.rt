@@ -4,7 +4,6 @@ use aec3_common::counts::one_more;
 use aec3_common::judge::all_values_ok;
 use aec3_common::refusal::ACCEPTED;
 use aec3_common::spectra::part;
-use erle_estimator::ErleSettings;
 use erle_estimator::erle;
 use erle_estimator::fullband_channel;
 use erle_estimator::fullband_settings;
@@ -15,13 +14,14 @@ use subband_erle_estimator::SubbandChannel;
 use trace::Trace;
 use trace::figure_at;
 use trace::steps::has_room;
+use trace::steps::state_ok;
+use trace_records::Decoded;
 use trace_records::Standing;
 use trace_records::block_in;
-use trace_records::form_refusal;
+use trace_records::decode;
 use trace_records::frame_length;
 use trace_records::frames::LENGTH_SIZE;
-use trace_records::kind_of;
-use trace_records::records::BLOCK_KIND;
+use trace_records::judge::block_form;
 use trace_text::put_row;
 ghost use mathlib.Core.Path.{_≡_};
 ghost use Prim.Native.Nat.{_≤_};
@@ -37,10 +37,9 @@ pub struct SteppedBlocks {
     pub at: usize,
 }
 
-// The L of the block that the bytes begin with. It is 0 where they begin with none that is whole and has its form, and where there are
-// sections or headroom.
-fn block_frame_length(settings: ErleSettings, s: &[u8]) -> usize
-    ensures { λ r. ⌜ r ≡ blockFrameLength settings (now (s .entry)) ⌝ }
+// The L of the block that the bytes begin with, or 0 where they begin with none that is whole and has its form.
+fn block_frame_length(standing: Standing, s: &[u8]) -> usize
+    ensures { λ r. ⌜ r ≡ blockFrameLength standing (now (s .entry)) ⌝ }
 {
     let length = frame_length(s);
     if length == 0 {
@@ -48,16 +47,18 @@ fn block_frame_length(settings: ErleSettings, s: &[u8]) -> usize
     }
     let end = LENGTH_SIZE + length;
     let record = &s[LENGTH_SIZE..end];
-    let standing = Standing {
-        num_capture_channels: settings.num_capture_channels,
-    };
-    let one_section_no_headroom = (settings.num_sections == 1)
-        & (settings.delay_headroom_samples == 0);
-    let form = form_refusal(standing, record);
-    if one_section_no_headroom & (kind_of(record) == BLOCK_KIND) & (form == ACCEPTED) {
-        length
-    } else {
-        0
+    let decoded = decode(record);
+    match decoded {
+        Decoded::Block => {
+            if block_form(standing, record) == ACCEPTED {
+                length
+            } else {
+                0
+            }
+        }
+        Decoded::Settings(_) => 0,
+        Decoded::Reset(_) => 0,
+        Decoded::Unknown => 0,
     }
 }
 
@@ -90,8 +91,8 @@ fn put_subband_row(
 }
 
 // Steps through the blocks that some bytes begin with, as `step` does one by one, for as long as each is accepted and finds room for its
-// lines, the startup phase ends with it or before it, and there is one section and no headroom. The estimator stands in one variable and
-// is changed in place: handing it to a function for every block would copy all of it for every block.
+// lines, and the startup phase ends with it or before it. The estimator stands in one variable and is changed in place: handing it to a
+// function for every block would copy all of it for every block.
 pub fn step_blocks(t: Trace, input: &[u8], out: &mut [u8], at: usize) -> SteppedBlocks
     ensures { λ r. ⌜ r ≡ blocksAnswer t (now (input .entry)) (now (out .entry)) at ⌝ }
     ensures { λ _. ⌜ now (out .exit) ≡ blocksOver t (now (input .entry)) (now (out .entry)) at ⌝ }
@@ -101,15 +102,18 @@ pub fn step_blocks(t: Trace, input: &[u8], out: &mut [u8], at: usize) -> Stepped
     let mut estimator = t.estimator;
     let mut blocks = t.blocks;
     let mut records = t.records;
-    let mut state_ok = estimator.ok();
+    let mut passes = state_ok(t);
     let mut at = at;
     let mut used = 0;
     loop {
         let settings = estimator.settings;
         let counted = one_more(estimator.blocks_since_reset);
         let started = estimator.startup_phase_length_blocks <= counted;
-        let length = block_frame_length(settings, &input[used..]);
-        if !(state_ok & started & (length > 0) & has_room(out.len(), at)) {
+        let standing = Standing {
+            num_capture_channels: settings.num_capture_channels,
+        };
+        let length = block_frame_length(standing, &input[used..]);
+        if !(passes & started & (length > 0) & has_room(out.len(), at)) {
             break;
         }
         let n = settings.num_capture_channels;
@@ -141,7 +145,7 @@ pub fn step_blocks(t: Trace, input: &[u8], out: &mut [u8], at: usize) -> Stepped
             let c = estimator.fullband[ch];
             let fullband = fullband_channel(c, min_erle_log2, loud & converged, own_y2, own_e2);
             estimator.fullband[ch] = fullband;
-            state_ok = state_ok & subband.ok() & fullband.ok();
+            passes = passes & subband.ok() & fullband.ok();
             let onset = settings.onset_detection;
             at = put_subband_row(out, at, onset, subband, band, blocks, ch as u32);
         }

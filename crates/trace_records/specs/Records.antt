@@ -1,41 +1,29 @@
--- What the bytes of a record say: two bytes of kind, and the body. A record is counted from its kind on, without its L.
+-- What a record says: its bytes, decoded once. A record is counted from its kind on, without its L: two bytes of kind, and the body.
 use Prim.Native.Nat.{ℕ, _+_, _*_, _/_, _%_}
 use mathlib.Core.Bool.{Bool, true, cond}
 use mathlib.Core.List.{List}
 use lib.Dec.{eqb}
 use lib.Ieee.{Float, binary32, ofBits}
+use lib.ListN.{length}
 use Rattle.aec3_common.specs.declared.settings.ErleSettings.{ErleSettings}
 use Rattle.aec3_common.specs.Lists.{tab}
 use Rattle.encoding.specs.Bytes.{byteAt, halfAt, wordAt}
+use Rattle.trace_records.specs.declared.records.SettingsRecord.{SettingsRecord}
+use Rattle.trace_records.specs.declared.judge.Standing.{Standing}
 
--- ---- kinds
+-- a block: a flag byte for each channel, render power, and the capture and the residual power of all channels, channel by channel
+pub record BlockRecord : Type 0 where
+  pub flags : List ℕ
+  pub render : List Float
+  pub capture : List Float
+  pub residual : List Float
 
-abbrev pub kindOf : List ℕ → ℕ
-kindOf r = halfAt r 0
-
-abbrev pub settingsKind : ℕ
-settingsKind = 0x0001
-
-abbrev pub blockKind : ℕ
-blockKind = 0x0002
-
-abbrev pub resetKind : ℕ
-resetKind = 0x0003
-
--- what is so of settings, of a block, of a reset, and of every other kind
-unfoldable pub byKind : {A : Type 0} → ℕ → A → A → A → A → A
-byKind kind settings block reset other =
-    cond (eqb kind settingsKind) settings (cond (eqb kind blockKind) block (cond (eqb kind resetKind) reset other))
-
--- the L of each
-abbrev pub settingsLength : ℕ
-settingsLength = 21
-
-abbrev pub blockLength : ℕ → ℕ
-blockLength channels = 262 + 521 * channels
-
-abbrev pub resetLength : ℕ
-resetLength = 3
+-- A record by its kind, each with its L. Flags are the bytes that stand there; which ones are bad is for the judging to say.
+pub data Record : Type 0 where
+  settings : (length : ℕ) → SettingsRecord → Record
+  block : (length : ℕ) → BlockRecord → Record
+  reset : (length delayFlag : ℕ) → Record
+  unknown : Record
 
 -- ---- single numbers
 
@@ -49,18 +37,28 @@ isSet b = eqb b 1
 
 -- ---- settings: min, max_l, max_h, capture channels, onset flag, startup count, printed band
 
-abbrev pub onsetByte : List ℕ → ℕ
-onsetByte r = byteAt r 15
-
--- There is one section, so that filter length and headroom change no figure. The quality clamps change none that is printed.
-unfoldable pub settingsIn : List ℕ → ErleSettings
+unfoldable pub settingsIn : List ℕ → SettingsRecord
 settingsIn r =
     record {
       min = valueAt r 2;
       «max_l» = valueAt r 6;
       «max_h» = valueAt r 10;
-      «onset_detection» = isSet (onsetByte r);
       «num_capture_channels» = byteAt r 14;
+      «onset_flag» = byteAt r 15;
+      startup = wordAt r 16;
+      band = byteAt r 20;
+    }
+
+-- The settings of the estimator that they start. There is one section, so that filter length and headroom change no figure. The quality
+-- clamps change none that is printed.
+unfoldable pub erleSettings : SettingsRecord → ErleSettings
+erleSettings s =
+    record {
+      min = s .min;
+      «max_l» = s .«max_l»;
+      «max_h» = s .«max_h»;
+      «onset_detection» = isSet (s .«onset_flag»);
+      «num_capture_channels» = s .«num_capture_channels»;
       «num_sections» = 1;
       «filter_length_blocks» = 1;
       «delay_headroom_samples» = 0;
@@ -68,27 +66,13 @@ settingsIn r =
       «clamp_quality_estimate_to_one» = true;
     }
 
-abbrev pub startupIn : List ℕ → ℕ
-startupIn r = wordAt r 16
-
-abbrev pub bandIn : List ℕ → ℕ
-bandIn r = byteAt r 20
-
--- ---- a reset: whether the delay changed
-
-abbrev pub delayByte : List ℕ → ℕ
-delayByte r = byteAt r 2
-
-abbrev pub delayChangedIn : List ℕ → Bool
-delayChangedIn r = isSet (delayByte r)
-
 -- ---- a block of n channels: a converged flag for each, render power, and of each channel capture power, then residual power
 
 abbrev pub convergedByte : List ℕ → ℕ → ℕ
 convergedByte r ch = byteAt r (2 + ch)
 
-unfoldable pub flagsIn : ℕ → List ℕ → List Bool
-flagsIn n r = tab n (λ ch. isSet (convergedByte r ch))
+unfoldable pub flagsIn : ℕ → List ℕ → List ℕ
+flagsIn n r = tab n (convergedByte r)
 
 -- 65 numbers of four bytes, from place i on
 unfoldable pub spectrumAt : List ℕ → ℕ → List Float
@@ -118,3 +102,33 @@ captureIn n r = spectraAt n r (capturePlace n)
 
 unfoldable pub residualIn : ℕ → List ℕ → List Float
 residualIn n r = spectraAt n r (residualPlace n)
+
+unfoldable pub blockIn : ℕ → List ℕ → BlockRecord
+blockIn n r = record { flags = flagsIn n r; render = renderIn n r; capture = captureIn n r; residual = residualIn n r }
+
+-- ---- a reset: whether the delay changed
+
+abbrev pub delayFlagIn : List ℕ → ℕ
+delayFlagIn r = byteAt r 2
+
+-- ---- a record
+
+abbrev pub kindOf : List ℕ → ℕ
+kindOf r = halfAt r 0
+
+abbrev pub settingsKind : ℕ
+settingsKind = 0x0001
+
+abbrev pub blockKind : ℕ
+blockKind = 0x0002
+
+abbrev pub resetKind : ℕ
+resetKind = 0x0003
+
+-- the record that bytes hold: a block has the channels of the settings that stand
+unfoldable pub decoded : Standing → List ℕ → Record
+decoded st r =
+    cond (eqb (kindOf r) settingsKind) (settings (length r) (settingsIn r))
+    (cond (eqb (kindOf r) blockKind) (block (length r) (blockIn (st .«num_capture_channels») r))
+    (cond (eqb (kindOf r) resetKind) (reset (length r) (delayFlagIn r))
+    unknown))

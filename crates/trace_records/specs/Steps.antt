@@ -1,21 +1,36 @@
--- What the functions that read a block promise, in tables that have room for four channels; no part of the definition of a listing.
+-- What inner functions of the code promise; no part of the definition of a listing.
 use Prim.Native.Nat.{ℕ, _+_, _-_, _*_}
 use mathlib.Core.Bool.{Bool, false, cond, _&&_}
-use mathlib.Core.List.{List, []}
+use mathlib.Core.List.{List, [], map}
 use lib.Dec.{leb, ltb, eqb}
 use lib.Ieee.{Float, nan}
 use lib.ListN.{length, getD}
 use Rattle.aec3_common.specs.Binary32.{zero32}
 use Rattle.aec3_common.specs.Lists.{tab}
 use Rattle.aec3_common.specs.Settings.{maxCaptureChannels}
-use Rattle.trace_records.specs.declared.records.Block.{Block}
-use Rattle.trace_records.specs.Records.{blockLength, valueAt, flagsIn, renderIn, captureIn, residualIn}
+use Rattle.trace_records.specs.declared.judge.Standing.{Standing}
+use Rattle.trace_records.specs.declared.records.BlockTables.{BlockTables}
+use Rattle.trace_records.specs.declared.records.Decoded.{Decoded}
+use Rattle.trace_records.specs.declared.records.Decoded.the-variants.{Settings, Block, Reset, Unknown}
+use Rattle.trace_records.specs.Records.{Record, settings, block, reset, unknown, isSet, valueAt, flagsIn, renderIn, captureIn, residualIn, blockIn}
+use Rattle.trace_records.specs.Judge.{blockLength}
+
+-- ---- a record in an enum
+
+-- the record that it stands for, beside the bytes: there is no room in it for a block's spectra
+unfoldable pub recordFrom : Standing → List ℕ → Decoded → Record
+recordFrom st r (Settings s) = settings (length r) s
+recordFrom st r Block = block (length r) (blockIn (st .«num_capture_channels») r)
+recordFrom st r (Reset delayFlag) = reset (length r) delayFlag
+recordFrom st r Unknown = unknown
+
+-- ---- a block, in tables that have room for four channels
 
 -- a list in a table of so many entries; those behind it are all the same
 unfoldable pub inTable : {A : Type 0} → ℕ → A → List A → List A
 inTable size rest xs = tab size (λ k. getD xs k rest)
 
-unfoldable pub tablesOf : List Bool → List Float → List Float → List Float → Block
+unfoldable pub tablesOf : List Bool → List Float → List Float → List Float → BlockTables
 tablesOf flags render capture residual =
     record {
       «converged_filters» = inTable 4 false flags;
@@ -25,14 +40,14 @@ tablesOf flags render capture residual =
     }
 
 -- no channels, and no render power
-unfoldable pub noBlock : Block
+unfoldable pub noBlock : BlockTables
 noBlock = tablesOf [] (tab 65 (λ k. zero32)) [] []
 
 -- a block of n channels; none where the record is not as long as one of up to four channels
-unfoldable pub blockIn : ℕ → List ℕ → Block
-blockIn n r =
+unfoldable pub tablesIn : ℕ → List ℕ → BlockTables
+tablesIn n r =
     cond (leb n maxCaptureChannels && eqb (length r) (blockLength n))
-    (tablesOf (flagsIn n r) (renderIn n r) (captureIn n r) (residualIn n r))
+    (tablesOf (map isSet (flagsIn n r)) (renderIn n r) (captureIn n r) (residualIn n r))
     noBlock
 
 -- a table with the spectrum at place i of a record laid over it, from entry at on

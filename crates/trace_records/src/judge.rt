@@ -1,14 +1,11 @@
 // Which number turns a record away, or 0.
-use crate::records::BLOCK_KIND;
-use crate::records::RESET_KIND;
+use crate::records::Decoded;
 use crate::records::RESET_LENGTH;
-use crate::records::SETTINGS_KIND;
 use crate::records::SETTINGS_LENGTH;
-use crate::records::band_in;
+use crate::records::SettingsRecord;
 use crate::records::block_in;
 use crate::records::block_length;
-use crate::records::kind_of;
-use crate::records::settings_in;
+use crate::records::decode;
 use aec3_common::FFT_LENGTH_BY_2;
 use aec3_common::FFT_LENGTH_BY_2_PLUS_1;
 use aec3_common::judge::all_values_ok;
@@ -26,56 +23,90 @@ ghost use mathlib.Core.Path.{_≡_};
 ghost use mathlib.Core.Bool.{_&&_};
 ghost use Prim.Native.Nat.{_≤_};
 ghost use lib.ListN.{length};
-ghost use Rattle.encoding.specs.Bytes.{byteAt};
-ghost use Rattle.trace_records.specs.Records.{blockLength, onsetByte, bandIn};
-ghost use Rattle.trace_records.specs.Judge.{flagOk, bandOk, flagsOk, settingsForm, blockForm, resetForm, formRefusal, settingsValues, blockValues, recordRefusal};
+ghost use Rattle.aec3_common.specs.Lists.{every};
+ghost use Rattle.aec3_common.specs.Refusal.{accepted};
+ghost use Rattle.trace_records.specs.Records.{settings as Record·settings, block as Record·block, reset as Record·reset, flagsIn, blockIn, decoded};
+ghost use Rattle.trace_records.specs.Judge.{nothingStands, standingAfter, blockLength, flagOk, bandOk, judgedWith, valueRefusal, recordRefusal};
 
 // What of the trace so far a record is judged by: the capture channels of the settings that stand, or 0 before them.
 pub struct Standing {
     pub num_capture_channels: usize,
 }
 
-fn flag_ok(record: &[u8], place: usize) -> bool
-    ensures { λ r. ⌜ r ≡ flagOk (byteAt (now («record» .entry)) place) ⌝ }
-{
-    byte_at(record, place) <= 1
+impl Standing {
+    // Before the first record.
+    pub fn nothing() -> Self
+        ensures { λ r. ⌜ r ≡ nothingStands ⌝ }
+    {
+        Standing {
+            num_capture_channels: 0,
+        }
+    }
+
+    // After a record that is accepted.
+    pub fn after(self, record: &[u8]) -> Self
+        ensures { λ r. ⌜ r ≡ standingAfter self (decoded self (now («record» .entry))) ⌝ }
+    {
+        let decoded = decode(record);
+        match decoded {
+            Decoded::Settings(settings) => Standing {
+                num_capture_channels: settings.num_capture_channels,
+            },
+            Decoded::Block => self,
+            Decoded::Reset(_) => self,
+            Decoded::Unknown => self,
+        }
+    }
 }
 
 // Number 13 of settings: the onset flag and the printed band.
-fn flag_and_band_ok(record: &[u8]) -> bool
-    ensures { λ r. ⌜ r ≡ flagOk (onsetByte (now («record» .entry))) && bandOk (bandIn (now («record» .entry))) ⌝ }
+fn flag_and_band_ok(settings: SettingsRecord) -> bool
+    ensures { λ r. ⌜ r ≡ flagOk (settings .«onset_flag») && bandOk (settings .band) ⌝ }
 {
-    flag_ok(record, 15) & (band_in(record) <= FFT_LENGTH_BY_2)
+    (settings.onset_flag <= 1) & (settings.band <= FFT_LENGTH_BY_2)
+}
+
+fn flag_ok(flag: u32) -> bool
+    ensures { λ r. ⌜ r ≡ flagOk flag ⌝ }
+{
+    flag <= 1
 }
 
 // Number 13 of a block: the converged flags.
 fn flags_ok(record: &[u8], num_capture_channels: usize) -> bool
     requires { ⌜ «num_capture_channels» ≤ 4 ⌝ }
-    ensures { λ r. ⌜ r ≡ flagsOk «num_capture_channels» (now («record» .entry)) ⌝ }
+    ensures { λ r. ⌜ r ≡ every flagOk (flagsIn «num_capture_channels» (now («record» .entry))) ⌝ }
 {
     let mut ok = true;
     for ch in 0..num_capture_channels {
-        ok = ok & flag_ok(record, 2 + ch);
+        ok = ok & flag_ok(byte_at(record, 2 + ch));
     }
     ok
 }
 
-fn settings_form(standing: Standing, record: &[u8]) -> u32
-    ensures { λ r. ⌜ r ≡ settingsForm standing (now («record» .entry)) ⌝ }
+// Of a settings record with such an L: the first of 23, 12, 13, 1 and 2, or 0.
+pub fn settings_refusal(standing: Standing, length: usize, settings: SettingsRecord) -> u32
+    ensures { λ r. ⌜ r ≡ recordRefusal standing (Record·settings length settings) ⌝ }
 {
     if capture_channels_ok(standing.num_capture_channels) {
         SECOND_SETTINGS
-    } else if record.len() != SETTINGS_LENGTH {
+    } else if length != SETTINGS_LENGTH {
         BAD_RECORD_LENGTH
-    } else if !flag_and_band_ok(record) {
+    } else if !flag_and_band_ok(settings) {
         BAD_FLAG_OR_BAND
     } else {
-        ACCEPTED
+        limits_and_channels_refusal(
+            settings.min,
+            settings.max_l,
+            settings.max_h,
+            settings.num_capture_channels,
+        )
     }
 }
 
-fn block_form(standing: Standing, record: &[u8]) -> u32
-    ensures { λ r. ⌜ r ≡ blockForm standing (now («record» .entry)) ⌝ }
+// Of a block, whose values are not looked at: the first of 22, 12 and 13, or 0.
+pub fn block_form(standing: Standing, record: &[u8]) -> u32
+    ensures { λ r. ⌜ r ≡ judgedWith standing (Record·block (length (now («record» .entry))) (blockIn (standing .«num_capture_channels») (now («record» .entry)))) accepted ⌝ }
 {
     if !capture_channels_ok(standing.num_capture_channels) {
         NO_SETTINGS
@@ -88,54 +119,26 @@ fn block_form(standing: Standing, record: &[u8]) -> u32
     }
 }
 
-fn reset_form(standing: Standing, record: &[u8]) -> u32
-    ensures { λ r. ⌜ r ≡ resetForm standing (now («record» .entry)) ⌝ }
+// Of a reset with such an L: the first of 22, 12 and 13, or 0.
+pub fn reset_refusal(standing: Standing, length: usize, delay_flag: u32) -> u32
+    ensures { λ r. ⌜ r ≡ recordRefusal standing (Record·reset length «delay_flag») ⌝ }
 {
     if !capture_channels_ok(standing.num_capture_channels) {
         NO_SETTINGS
-    } else if record.len() != RESET_LENGTH {
+    } else if length != RESET_LENGTH {
         BAD_RECORD_LENGTH
-    } else if !flag_ok(record, 2) {
+    } else if !flag_ok(delay_flag) {
         BAD_FLAG_OR_BAND
     } else {
         ACCEPTED
     }
 }
 
-// The first of 11, 22 or 23, 12 and 13, or 0.
-pub fn form_refusal(standing: Standing, record: &[u8]) -> u32
-    ensures { λ r. ⌜ r ≡ formRefusal standing (now («record» .entry)) ⌝ }
-{
-    let kind = kind_of(record);
-    if kind == SETTINGS_KIND {
-        settings_form(standing, record)
-    } else if kind == BLOCK_KIND {
-        block_form(standing, record)
-    } else if kind == RESET_KIND {
-        reset_form(standing, record)
-    } else {
-        UNKNOWN_KIND
-    }
-}
-
-// The first of 1 and 2, or 0.
-fn settings_values(record: &[u8]) -> u32
-    ensures { λ r. ⌜ r ≡ settingsValues (now («record» .entry)) ⌝ }
-{
-    let settings = settings_in(record);
-    limits_and_channels_refusal(
-        settings.min,
-        settings.max_l,
-        settings.max_h,
-        settings.num_capture_channels,
-    )
-}
-
-// 6, or 0.
+// Of a block's values: 6, or 0.
 fn block_values(num_capture_channels: usize, record: &[u8]) -> u32
     requires { ⌜ «num_capture_channels» ≤ 4 ⌝ }
     requires { ⌜ length (now «record») ≡ blockLength «num_capture_channels» ⌝ }
-    ensures { λ r. ⌜ r ≡ blockValues «num_capture_channels» (now («record» .entry)) ⌝ }
+    ensures { λ r. ⌜ r ≡ valueRefusal (Record·block (length (now («record» .entry))) (blockIn «num_capture_channels» (now («record» .entry)))) ⌝ }
 {
     let block = block_in(record, num_capture_channels);
     let x2 = block.x2;
@@ -149,20 +152,27 @@ fn block_values(num_capture_channels: usize, record: &[u8]) -> u32
     }
 }
 
-// The first of all numbers under which a whole record is turned away, or 0.
-pub fn judge(standing: Standing, record: &[u8]) -> u32
-    ensures { λ r. ⌜ r ≡ recordRefusal standing (now («record» .entry)) ⌝ }
+// Of a block: the first of 22, 12, 13 and 6, or 0.
+fn block_refusal(standing: Standing, record: &[u8]) -> u32
+    ensures { λ r. ⌜ r ≡ recordRefusal standing (Record·block (length (now («record» .entry))) (blockIn (standing .«num_capture_channels») (now («record» .entry)))) ⌝ }
 {
-    let refused = form_refusal(standing, record);
-    if refused != ACCEPTED {
-        return refused;
-    }
-    let kind = kind_of(record);
-    if kind == SETTINGS_KIND {
-        settings_values(record)
-    } else if kind == BLOCK_KIND {
-        block_values(standing.num_capture_channels, record)
+    let form = block_form(standing, record);
+    if form != ACCEPTED {
+        form
     } else {
-        ACCEPTED
+        block_values(standing.num_capture_channels, record)
+    }
+}
+
+// The first of all numbers under which a whole record is turned away, or 0.
+pub fn record_refusal(standing: Standing, record: &[u8]) -> u32
+    ensures { λ r. ⌜ r ≡ recordRefusal standing (decoded standing (now («record» .entry))) ⌝ }
+{
+    let decoded = decode(record);
+    match decoded {
+        Decoded::Settings(settings) => settings_refusal(standing, record.len(), settings),
+        Decoded::Block => block_refusal(standing, record),
+        Decoded::Reset(delay_flag) => reset_refusal(standing, record.len(), delay_flag),
+        Decoded::Unknown => UNKNOWN_KIND,
     }
 }

@@ -7,19 +7,22 @@ use encoding::half_at;
 use encoding::word_at;
 ghost use mathlib.Core.Path.{_≡_};
 ghost use mathlib.Core.Bool.{false};
-ghost use Prim.Native.Nat.{_+_, _*_, _≤_, _<_};
+ghost use mathlib.Core.List.{map};
+ghost use Prim.Native.Nat.{_+_, _*_, _≤_};
 ghost use lib.Ieee.{binary32, ofBits};
 ghost use lib.ListN.{length};
 ghost use Rattle.aec3_common.specs.Binary32.{zero32};
 ghost use Rattle.encoding.specs.Bytes.{byteAt};
-ghost use Rattle.trace_records.specs.Records.{kindOf, isSet, blockLength, valueAt, settingsIn, startupIn, bandIn, delayChangedIn, flagsIn, spectrumAt, spectraAt};
-ghost use Rattle.trace_records.specs.Steps.{inTable, noBlock, blockIn, withSpectrum};
+ghost use Rattle.trace_records.specs.declared.judge.Standing.{Standing};
+ghost use Rattle.trace_records.specs.Records.{isSet, valueAt, settingsIn, erleSettings, flagsIn, spectrumAt, spectraAt, decoded};
+ghost use Rattle.trace_records.specs.Judge.{blockLength};
+ghost use Rattle.trace_records.specs.Steps.{recordFrom, inTable, noBlock, tablesIn, withSpectrum};
 
-pub const SETTINGS_KIND: u32 = 0x0001;
+const SETTINGS_KIND: u32 = 0x0001;
 
-pub const BLOCK_KIND: u32 = 0x0002;
+const BLOCK_KIND: u32 = 0x0002;
 
-pub const RESET_KIND: u32 = 0x0003;
+const RESET_KIND: u32 = 0x0003;
 
 pub const SETTINGS_LENGTH: usize = 21;
 
@@ -28,19 +31,32 @@ pub const RESET_LENGTH: usize = 3;
 // The bytes of 65 numbers.
 const SPECTRUM_SIZE: usize = 260;
 
+// What a settings record says.
+pub struct SettingsRecord {
+    pub min: f32,
+    pub max_l: f32,
+    pub max_h: f32,
+    pub num_capture_channels: usize,
+    pub onset_flag: u32,
+    pub startup: u32,
+    pub band: usize,
+}
+
+// A record by its kind. There is no room in it for a block's spectra, which `block_in` reads.
+pub enum Decoded {
+    Settings(SettingsRecord),
+    Block,
+    Reset(u32),
+    Unknown,
+}
+
 // A block: its converged flags and its render, capture and residual power, channel by channel. Channels that it does not have
 // stand there too, with flag no and power 0.
-pub struct Block {
+pub struct BlockTables {
     pub converged_filters: [bool; 4],
     pub x2: [f32; 65],
     pub y2: [f32; 260],
     pub e2: [f32; 260],
-}
-
-pub fn kind_of(record: &[u8]) -> u32
-    ensures { λ r. ⌜ r ≡ kindOf (now («record» .entry)) ⌝ }
-{
-    half_at(record, 0)
 }
 
 fn flag_at(record: &[u8], place: usize) -> bool
@@ -55,42 +71,52 @@ fn value_at(record: &[u8], place: usize) -> f32
     float_of(word_at(record, place))
 }
 
-// The settings of an estimator with one section.
-pub fn settings_in(record: &[u8]) -> ErleSettings
+fn settings_in(record: &[u8]) -> SettingsRecord
     ensures { λ r. ⌜ r ≡ settingsIn (now («record» .entry)) ⌝ }
 {
-    ErleSettings {
+    SettingsRecord {
         min: value_at(record, 2),
         max_l: value_at(record, 6),
         max_h: value_at(record, 10),
-        onset_detection: flag_at(record, 15),
         num_capture_channels: byte_at(record, 14) as usize,
+        onset_flag: byte_at(record, 15),
+        startup: word_at(record, 16),
+        band: byte_at(record, 20) as usize,
+    }
+}
+
+// The record that bytes hold, whatever stands.
+pub fn decode(record: &[u8]) -> Decoded
+    ensures { λ r. ⌜ ((standing : Standing) → recordFrom standing (now («record» .entry)) r ≡ decoded standing (now («record» .entry))) ⌝ }
+{
+    let kind = half_at(record, 0);
+    if kind == SETTINGS_KIND {
+        Decoded::Settings(settings_in(record))
+    } else if kind == BLOCK_KIND {
+        Decoded::Block
+    } else if kind == RESET_KIND {
+        Decoded::Reset(byte_at(record, 2))
+    } else {
+        Decoded::Unknown
+    }
+}
+
+// The settings of the estimator that a settings record starts, which has one section.
+pub fn erle_settings(settings: SettingsRecord) -> ErleSettings
+    ensures { λ r. ⌜ r ≡ erleSettings settings ⌝ }
+{
+    ErleSettings {
+        min: settings.min,
+        max_l: settings.max_l,
+        max_h: settings.max_h,
+        onset_detection: settings.onset_flag == 1,
+        num_capture_channels: settings.num_capture_channels,
         num_sections: 1,
         filter_length_blocks: 1,
         delay_headroom_samples: 0,
         clamp_quality_estimate_to_zero: true,
         clamp_quality_estimate_to_one: true,
     }
-}
-
-pub fn startup_in(record: &[u8]) -> u32
-    ensures { λ r. ⌜ r ≡ startupIn (now («record» .entry)) ⌝ }
-{
-    word_at(record, 16)
-}
-
-// The printed band.
-pub fn band_in(record: &[u8]) -> usize
-    ensures { λ r. ⌜ r ≡ bandIn (now («record» .entry)) ⌝ }
-    ensures { λ r. ⌜ r < 256 ⌝ }
-{
-    byte_at(record, 20) as usize
-}
-
-pub fn delay_changed_in(record: &[u8]) -> bool
-    ensures { λ r. ⌜ r ≡ delayChangedIn (now («record» .entry)) ⌝ }
-{
-    flag_at(record, 2)
 }
 
 // The L of a block, for a count of channels that is in its range.
@@ -104,7 +130,7 @@ pub(crate) fn block_length(num_capture_channels: usize) -> usize
 // The converged flags in a table.
 fn flags_in(record: &[u8], num_capture_channels: usize) -> [bool; 4]
     requires { ⌜ «num_capture_channels» ≤ 4 ⌝ }
-    ensures { λ r. ⌜ r ≡ inTable 4 false (flagsIn «num_capture_channels» (now («record» .entry))) ⌝ }
+    ensures { λ r. ⌜ r ≡ inTable 4 false (map isSet (flagsIn «num_capture_channels» (now («record» .entry)))) ⌝ }
 {
     let mut flags = [false; 4];
     for ch in 0..num_capture_channels {
@@ -158,10 +184,10 @@ fn spectra_in(record: &[u8], num_capture_channels: usize, place: usize) -> [f32;
     spectra
 }
 
-fn no_block() -> Block
+fn no_block() -> BlockTables
     ensures { λ r. ⌜ r ≡ noBlock ⌝ }
 {
-    Block {
+    BlockTables {
         converged_filters: [false; 4],
         x2: [0.0; 65],
         y2: [0.0; 260],
@@ -170,8 +196,8 @@ fn no_block() -> Block
 }
 
 // A block, or none where the record is not as long as one of up to four channels.
-pub fn block_in(record: &[u8], num_capture_channels: usize) -> Block
-    ensures { λ r. ⌜ r ≡ blockIn «num_capture_channels» (now («record» .entry)) ⌝ }
+pub fn block_in(record: &[u8], num_capture_channels: usize) -> BlockTables
+    ensures { λ r. ⌜ r ≡ tablesIn «num_capture_channels» (now («record» .entry)) ⌝ }
 {
     if num_capture_channels > MAX_CAPTURE_CHANNELS {
         return no_block();
@@ -186,7 +212,7 @@ pub fn block_in(record: &[u8], num_capture_channels: usize) -> Block
     let x2 = spectrum_in(record, render_place);
     let y2 = spectra_in(record, num_capture_channels, capture_place);
     let e2 = spectra_in(record, num_capture_channels, residual_place);
-    Block {
+    BlockTables {
         converged_filters,
         x2,
         y2,

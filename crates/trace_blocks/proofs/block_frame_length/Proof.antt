@@ -1,9 +1,14 @@
 -- The tests are the definition's.
 use borrow.Author.Needs.{needs}
-use mathlib.Core.Path.{_≡_, sym, _∙_}
+use borrow.Author.Tests.{eq-eqb, ne-eqb}
+use mathlib.Core.Path.{_≡_, refl, sym, _∙_}
 use mathlib.Core.Bool.{true, false}
 use native.Mathlib.Omega.{arith}
-use Rattle.trace_blocks.proofs.InPlace.{Whole, whole-is, frame-none, frame-by}
+use Rattle.aec3_common.specs.Refusal.{accepted}
+use Rattle.trace_records.specs.declared.records.Decoded.the-variants.{Settings, Block, Reset, Unknown}
+use Rattle.trace_records.specs.Steps.{recordFrom}
+use Rattle.trace_blocks.specs.Blocks.{isBlock}
+use Rattle.trace_blocks.proofs.InPlace.{Whole, whole-is, frame-none, frame-by, frame-other}
 use Rattle.trace_blocks.proofs.block_frame_length.Statement.{statement}
 use Rattle.trace_blocks.proofs.block_frame_length.Tie as tie
 
@@ -14,10 +19,32 @@ whole : (c : tie.Else1) → Whole (c .before .before .before .args .s .now) (c .
 whole c = whole-is _ (c .before .frame-length .ensures) (c .if1 .left)
 
 block : tie.Need-returns-2
-block c = frame-by _ _ (whole (c .before .before .before .before .before .before)) (c .before .kind-of .ensures) (c .before .before .form-refusal .ensures) true (c .if2 .taken)
+block c =
+    let kind = rw (c .before .before .enum-told .given .1) at (c .before .before .before .before .decode .ensures (c .before .before .before .before .before .before .before .before .before .args .standing)) in
+    frame-by _ _ (whole (c .before .before .before .before .before .before)) kind (c .before .block-form .ensures) true (eq-eqb _ _ (c .if2 .taken))
 
-other : tie.Need-returns-3
-other c = frame-by _ _ (whole (c .before .before .before .before .before .before)) (c .before .kind-of .ensures) (c .before .before .form-refusal .ensures) false (c .if2 .left)
+bad-form : tie.Need-returns-3
+bad-form c =
+    let kind = rw (c .before .before .enum-told .given .1) at (c .before .before .before .before .decode .ensures (c .before .before .before .before .before .before .before .before .before .args .standing)) in
+    frame-by _ _ (whole (c .before .before .before .before .before .before)) kind (c .before .block-form .ensures) false (ne-eqb _ _ (c .if2 .left))
+
+settings : tie.Need-returns-4
+unfolding recordFrom isBlock
+settings c =
+    let kind = c .before .before .decode .ensures (c .before .before .before .before .before .before .before .args .standing) in
+    frame-other _ _ (whole (c .before .before .before .before)) (c .before .before .decode .result) kind (rw (c .enum-told2 .given .1))
+
+reset : tie.Need-returns-5
+unfolding recordFrom isBlock
+reset c =
+    let kind = c .before .before .decode .ensures (c .before .before .before .before .before .before .before .args .standing) in
+    frame-other _ _ (whole (c .before .before .before .before)) (c .before .before .decode .result) kind (rw (c .enum-told3 .given .1))
+
+unknown : tie.Need-returns-6
+unfolding recordFrom isBlock
+unknown c =
+    let kind = c .before .before .decode .ensures (c .before .before .before .before .before .before .before .args .standing) in
+    frame-other _ _ (whole (c .before .before .before .before)) (c .before .before .decode .result) kind (rw (c .enum-told4 .given .1))
 
 pub block-frame-length-spec : {M : Type 1} → statement M
 block-frame-length-spec =
@@ -30,6 +57,13 @@ block-frame-length-spec =
     (λ c. search needs)
     (λ c. whole c .room)
     (λ c κs. search needs)
+    (λ c. search needs)
     (λ c κs. search needs)
+    (λ c. search needs)
+    (λ c. search needs)
+    (λ c. search needs)
     block
-    other)
+    bad-form
+    settings
+    reset
+    unknown)

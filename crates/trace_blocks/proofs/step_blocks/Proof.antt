@@ -9,7 +9,6 @@ use native.Mathlib.Omega.{arith}
 use lib.Dec.{leb, ltb}
 use lib.ListN.{length, getD, take, drop}
 use lib.Seq.{length-take-le, getD-take}
-use Rattle.aec3_common.specs.declared.settings.ErleSettings.{ErleSettings}
 use Rattle.aec3_common.specs.Binary32.{greatestValue, within, valuesOk}
 use Rattle.aec3_common.specs.Calls.{valuesInRange}
 use Rattle.aec3_common.specs.Counts.{oneMore}
@@ -30,28 +29,28 @@ use Rattle.erle_estimator.specs.Parts.{fullbandSettings, subbandPart, fullbandP
 use Rattle.erle_estimator.specs.Erle.{Update, stateOk, counted, updated}
 use Rattle.erle_estimator.proofs.Judged.{subband-passed, fullband-passed}
 use Rattle.trace_records.specs.Frames.{lengthIn, recordIn}
-use Rattle.trace_records.specs.Records.{flagsIn, renderIn, captureIn, residualIn}
-use Rattle.trace_records.specs.Steps.{blockIn}
+use Rattle.trace_records.specs.Records.{blockIn}
+use Rattle.trace_records.specs.Steps.{tablesIn}
 use Rattle.trace_records.proofs.Framing.{framed-least}
 use Rattle.trace_records.proofs.Blocks.{Tables, block-tables, length-flags, length-render, length-capture, length-residual}
 use Rattle.trace_records.proofs.Judged.{BlockOk}
 use Rattle.trace_text.specs.Text.{lines}
 use Rattle.trace.specs.declared.Trace.{Trace}
-use Rattle.trace.specs.Apply.{channelsOf, standingOf, updateIn, rowAt}
+use Rattle.trace.specs.Apply.{channelsOf, standingOf, traceOk, updateIn, rowAt}
 use Rattle.trace_blocks.specs.Blocks.{Walk, takes, walked, blocksAnswer, blocksOver, blockFrameLength, subbandRow}
-use Rattle.trace_blocks.proofs.InPlace.{OnItsWay, walk-begun, walk-ended, each-of-these, BlockFrame, some-frame, frame-long, lent-ahead, frame-ends, record-ahead, block-form, block-stepped, walk-on, taken-room, taken-frame, taken-started, taken-state, taken-values, row-is}
+use Rattle.trace_blocks.proofs.InPlace.{OnItsWay, walk-begun, walk-ended, each-of-these, BlockFrame, some-frame, frame-long, lent-ahead, frame-ends, record-ahead, block-form, block-passing, same-but-records, records-pass, block-stepped, walk-on, taken-room, taken-frame, taken-started, taken-state, taken-values, row-is}
 use Rattle.trace.proofs.Lines.{Listing, listing-none, listing-more}
 use Rattle.trace_blocks.proofs.Moving.{Moving, subbandAt, fullbandAt, moving-none, moving-more, moving-all, moving-ok, moving-told, subband-moved, fullband-moved}
 use Rattle.trace_blocks.proofs.step_blocks.Statement.{statement}
 use Rattle.trace_blocks.proofs.step_blocks.Tie as tie
 
 abbrev Inv-loop2 : tie.InvT-loop2
-Inv-loop2 input out₀ at band estimator₀ blocks records state-ok₀ at₀ used settings counted started l n start end flags x2 y2 e2 count subband-part min-erle-log2 loud ch₀ out estimator state-ok at' ch =
-    let u = updateIn n (recordIn (drop used input)) in
-    Moving estimator₀ u estimator ch state-ok × Listing n (rowAt (updated estimator₀ u) band blocks) out₀ at₀ ch out at'
+Inv-loop2 input out₀ at band estimator₀ blocks records passes₀ at₀ used settings counted started l n start end flags x2 y2 e2 count subband-part min-erle-log2 loud ch₀ out estimator ok at' ch =
+    let u = updateIn n (blockIn n (recordIn (drop used input))) in
+    Moving estimator₀ u estimator ch ok × Listing n (rowAt (updated estimator₀ u) band blocks) out₀ at₀ ch out at'
 
 abbrev μ-loop2 : tie.MeasureT-loop2
-μ-loop2 input out₀ at band estimator₀ blocks records state-ok₀ at₀ used settings counted started l n start end flags x2 y2 e2 count subband-part min-erle-log2 loud ch₀ out estimator state-ok at' ch =
+μ-loop2 input out₀ at band estimator₀ blocks records passes₀ at₀ used settings counted started l n start end flags x2 y2 e2 count subband-part min-erle-log2 loud ch₀ out estimator ok at' ch =
     n - ch
 
 -- where a walk stands, by its parts
@@ -60,17 +59,17 @@ walk estimator band blocks records used out at =
     record { state = record { estimator = estimator; band = band; blocks = blocks; records = records }; used = used; out = out; at = at }
 
 abbrev Inv-loop : tie.InvT-loop
-Inv-loop input out₀ at band estimator₀ blocks₀ records₀ state-ok₀ at₀ used₀ out estimator blocks records state-ok at' used =
+Inv-loop input out₀ at band estimator₀ blocks₀ records₀ passes₀ at₀ used₀ out estimator blocks records ok at' used =
     OnItsWay input (walk estimator₀ band blocks₀ records₀ 0 out₀ at₀) (walk estimator band blocks records used out at')
-    × (used ≤ length input) × (length out ≡ length out₀) × ((state-ok ≡ true → stateOk estimator ≡ true) × (stateOk estimator ≡ true → state-ok ≡ true))
+    × (used ≤ length input) × (length out ≡ length out₀) × ((ok ≡ true → traceOk (walk estimator band blocks records used out at' .state) ≡ true) × (traceOk (walk estimator band blocks records used out at' .state) ≡ true → ok ≡ true))
     × (length (estimator .subband) ≡ 4) × (length (estimator .fullband) ≡ 4)
 
 abbrev μ-loop : tie.MeasureT-loop
-μ-loop input out₀ at band estimator₀ blocks₀ records₀ state-ok₀ at₀ used₀ out estimator blocks records state-ok at' used =
+μ-loop input out₀ at band estimator₀ blocks₀ records₀ passes₀ at₀ used₀ out estimator blocks records ok at' used =
     length input - used
 
 loop-holds : tie.Need-loop-holds Inv-loop2 μ-loop2 Inv-loop μ-loop
-loop-holds c = (walk-begun _ _, omega arith, refl, (λ e. sym (c .ok .ensures) ∙ e, λ e. c .ok .ensures ∙ e), search (needs, length-mapped), search (needs, length-mapped))
+loop-holds c = (walk-begun _ _, omega arith, refl, (λ e. sym (c .state-ok .ensures) ∙ e, λ e. c .state-ok .ensures ∙ e), search (needs, length-mapped), search (needs, length-mapped))
 
 -- ---- a turn: the tests that it has passed
 
@@ -85,22 +84,19 @@ rest c = drop (c .before .before .before .before .before .before .loop .used) (c
 
 tests :
     (c : Turn)
-    → (c .before .before .before .before .before .before .loop .state-ok ≡ true)
+    → (c .before .before .before .before .before .before .loop .passes ≡ true)
     × (leb (before c .estimator .«startup_phase_length_blocks») (c .before .before .before .before .one-more .result) ≡ true)
     × (ltb 0 (c .before .before .block-frame-length .result) ≡ true)
     × (c .before .has-room .result ≡ true)
 tests c = each-of-these _ _ _ _ (not-false _ (c .if1 .left))
 
-passes : (c : Turn) → stateOk (before c .estimator) ≡ true
-passes c = c .before .before .before .before .before .before .loop .inv .3 .0 (tests c .0)
-
 started : (c : Turn) → before c .estimator .«startup_phase_length_blocks» ≤ oneMore (before c .estimator .«blocks_since_reset»)
 started c = omega (arith, leb-true (before c .estimator .«startup_phase_length_blocks») (c .before .before .before .before .one-more .result) (tests c .1), c .before .before .before .before .one-more .ensures)
 
-length-is : (c : Turn) → c .before .before .block-frame-length .result ≡ blockFrameLength (before c .estimator .settings) (rest c)
-length-is c = c .before .before .block-frame-length .ensures ∙ ap (blockFrameLength (before c .estimator .settings)) (lent-ahead (c .before .before .before .before .before .before .before .before .before .before .before .args .input .now) (c .before .before .before .before .before .before .loop .used))
+length-is : (c : Turn) → c .before .before .block-frame-length .result ≡ blockFrameLength (standingOf (before c)) (rest c)
+length-is c = c .before .before .block-frame-length .ensures ∙ ap (blockFrameLength (standingOf (before c))) (lent-ahead (c .before .before .before .before .before .before .before .before .before .before .before .args .input .now) (c .before .before .before .before .before .before .loop .used))
 
-frame : (c : Turn) → BlockFrame (before c .estimator .settings) (rest c)
+frame : (c : Turn) → BlockFrame (standingOf (before c)) (rest c)
 frame c = some-frame _ _ (omega (arith, length-is c, ltb-true 0 (c .before .before .block-frame-length .result) (tests c .2)))
 
 long : (c : Turn) → c .before .before .block-frame-length .result ≡ lengthIn (rest c)
@@ -109,8 +105,18 @@ long c = length-is c ∙ frame-long _ _ (frame c)
 room : (c : Turn) → leb (c .before .before .before .before .before .before .loop .at + 196) (length (c .before .before .before .before .before .before .loop .out)) ≡ true
 room c = sym (c .before .has-room .ensures) ∙ tests c .3
 
-form : (c : Turn) → BlockOk (standingOf (before c .estimator)) (recordIn (rest c))
+form : (c : Turn) → BlockOk (standingOf (before c)) (length (recordIn (rest c))) (blockIn (channelsOf (before c .estimator)) (recordIn (rest c)))
 form c = block-form (before c) (rest c) (frame c)
+
+-- number 20 lets the state pass, and so the estimator, which has one section
+state-passes : (c : Turn) → traceOk (before c) ≡ true
+state-passes c = c .before .before .before .before .before .before .loop .inv .3 .0 (tests c .0)
+
+passes : (c : Turn) → stateOk (before c .estimator) ≡ true
+passes c = block-passing (before c) (rest c) (frame c) (state-passes c) .0
+
+section : (c : Turn) → before c .estimator .settings .«num_sections» ≡ 1
+section c = block-passing (before c) (rest c) (frame c) (state-passes c) .1
 
 few : (c : Turn) → channelsOf (before c .estimator) ≤ 4
 few c = form c .few
@@ -124,7 +130,7 @@ tables : (c : tie.After-block-in Inv-loop2 μ-loop2 Inv-loop μ-loop) → Tables
 tables c =
     let turn = c .before .before in
     block-tables _ _ _ (few turn) (form turn .long)
-    (c .block-in .ensures ∙ ap (blockIn (channelsOf (before turn .estimator))) (record-ahead (c .before .before .before .before .before .before .before .before .before .before .before .before .before .args .input .now) (c .before .before .before .before .before .before .before .before .loop .used) (long turn)))
+    (c .block-in .ensures ∙ ap (tablesIn (channelsOf (before turn .estimator))) (record-ahead (c .before .before .before .before .before .before .before .before .before .before .before .before .before .args .input .now) (c .before .before .before .before .before .before .before .before .loop .used) (long turn)))
 
 render-long : (c : tie.After-block-in Inv-loop2 μ-loop2 Inv-loop μ-loop) → length (c .block-in .result .x2) ≡ 65
 render-long c = ap length (tables c .render) ∙ length-render (channelsOf (before (c .before .before) .estimator)) (recordIn (rest (c .before .before)))
@@ -132,8 +138,9 @@ render-long c = ap length (tables c .render) ∙ length-render (channelsOf (befo
 values :
     (c : tie.Else2 Inv-loop2 μ-loop2 Inv-loop μ-loop)
     → let n = channelsOf (before (c .before .before .before .before .before .before .before .before .before .before .before) .estimator) in
-    let r = recordIn (rest (c .before .before .before .before .before .before .before .before .before .before .before)) in
-    valuesInRange (renderIn n r) (captureIn n r) (residualIn n r) ≡ true
+    let b = blockIn n (recordIn (rest (c .before .before .before .before .before .before .before .before .before .before .before))) in
+    valuesInRange (b .render) (b .capture) (b .residual) ≡ true
+unfolding blockIn
 values c =
     let t = tables (c .before .before .before .before .before .before .before .before .before) in
     rw (← t .render, ← t .capture, ← t .residual) (sym (c .before .all-values-ok .ensures) ∙ not-false _ (c .if2 .left))
@@ -153,7 +160,7 @@ inside c = c .loop2-test .taken
 
 -- the update that the block is, and the state with the block counted, from which the records move
 abbrev update : Turn → Update
-update c = updateIn (channelsOf (before c .estimator)) (recordIn (rest c))
+update c = updateIn (channelsOf (before c .estimator)) (blockIn (channelsOf (before c .estimator)) (recordIn (rest c)))
 
 abbrev from : tie.At-loop2 Inv-loop2 μ-loop2 Inv-loop μ-loop → ErleEstimator
 from c =
@@ -167,7 +174,7 @@ counted-is c =
     λ i. withRecords e (c .before .before .before .before .before .before .before .before .before .before .before .before .before .before .before .before .before .before .before .before .before .before .before .before .one-more .ensures i) (e .subband) (e .«signal_dependent») (e .fullband)
 
 flag : (c : tie.In-loop2 Inv-loop2 μ-loop2 Inv-loop μ-loop) → getD (c .before .before .before .before .before .before .before .before .before .before .before .before .before .before .before .before .before .before .before .block-in .result .«converged_filters») (c .before .loop2 .ch) false ≡ getD (update (c .before .before .before .before .before .before .before .before .before .before .before .before .before .before .before .before .before .before .before .before .before) .converged) (c .before .loop2 .ch) false
-unfolding updateIn
+unfolding updateIn blockIn
 flag c =
     let t = tables (c .before .before .before .before .before .before .before .before .before .before .before .before .before .before .before .before .before .before .before) in
     sym (getD-take (channelsOf (before (c .before .before .before .before .before .before .before .before .before .before .before .before .before .before .before .before .before .before .before .before .before) .estimator)) _ (c .before .loop2 .ch) false (inside c)) ∙ ap (λ (l : List Bool). getD l (c .before .loop2 .ch) false) (t .flags)
@@ -177,14 +184,14 @@ own :
     (c : tie.After-part2 Inv-loop2 μ-loop2 Inv-loop μ-loop)
     → (c .before .before .part .result .now ≡ part (update (c .before .before .before .before .before .before .before .before .before .before .before .before .before .before .before .before .before .before .before .before .before .before .before .before .before) .capture) (c .before .before .before .before .before .loop2 .ch))
     × (c .part2 .result .now ≡ part (update (c .before .before .before .before .before .before .before .before .before .before .before .before .before .before .before .before .before .before .before .before .before .before .before .before .before) .residual) (c .before .before .before .before .before .loop2 .ch))
-unfolding updateIn
+unfolding updateIn blockIn
 own c =
     let t = tables (c .before .before .before .before .before .before .before .before .before .before .before .before .before .before .before .before .before .before .before .before .before .before .before) in
     let ch : ℕ = c .before .before .before .before .before .loop2 .ch in
     (c .before .before .part .ensures ∙ ap (λ l. part l ch) (t .capture), c .part2 .ensures ∙ ap (λ l. part l ch) (t .residual))
 
 own-long : (c : tie.After-part2 Inv-loop2 μ-loop2 Inv-loop μ-loop) → (length (c .before .before .part .result .now) ≡ 65) × (length (c .part2 .result .now) ≡ 65)
-unfolding updateIn
+unfolding updateIn blockIn
 own-long c =
     let n = channelsOf (before (c .before .before .before .before .before .before .before .before .before .before .before .before .before .before .before .before .before .before .before .before .before .before .before .before .before) .estimator) in
     let r = recordIn (rest (c .before .before .before .before .before .before .before .before .before .before .before .before .before .before .before .before .before .before .before .before .before .before .before .before .before)) in
@@ -204,7 +211,7 @@ subband-channel-requires c κs =
     )
 
 subband-is : (c : tie.After-subband-channel Inv-loop2 μ-loop2 Inv-loop μ-loop) → c .subband-channel .result ≡ subbandAt (from (c .before .before .before .before .before .before .before .before)) (update (c .before .before .before .before .before .before .before .before .before .before .before .before .before .before .before .before .before .before .before .before .before .before .before .before .before .before .before .before)) (c .before .before .before .before .before .before .before .before .loop2 .ch)
-unfolding updateIn
+unfolding updateIn blockIn
 subband-is c =
     let t = tables (c .before .before .before .before .before .before .before .before .before .before .before .before .before .before .before .before .before .before .before .before .before .before .before .before .before .before) in
     c .subband-channel .ensures
@@ -212,7 +219,7 @@ subband-is c =
     (stored-not-yet (c .before .before .before .before .before .before .before .before .loop2 .inv .0 .subband))
 
 fullband-channel-requires : tie.Need-fullband-channel-requires Inv-loop2 μ-loop2 Inv-loop μ-loop
-unfolding updateIn
+unfolding updateIn blockIn
 fullband-channel-requires c κs =
     let e = before (c .before .before .before .before .before .before .before .before .before .before .before .before .before .before .before .before .before .before .before .before .before .before .before .before .before .before .before .before .before) .estimator in
     let ch : ℕ = c .before .before .before .before .before .before .before .before .before .loop2 .ch in (
@@ -222,7 +229,7 @@ fullband-channel-requires c κs =
     )
 
 fullband-is : (c : tie.After-fullband-channel Inv-loop2 μ-loop2 Inv-loop μ-loop) → c .fullband-channel .result ≡ fullbandAt (from (c .before .before .before .before .before .before .before .before .before .before)) (update (c .before .before .before .before .before .before .before .before .before .before .before .before .before .before .before .before .before .before .before .before .before .before .before .before .before .before .before .before .before .before)) (c .before .before .before .before .before .before .before .before .before .before .loop2 .ch)
-unfolding updateIn
+unfolding updateIn blockIn
 fullband-is c =
     let t = tables (c .before .before .before .before .before .before .before .before .before .before .before .before .before .before .before .before .before .before .before .before .before .before .before .before .before .before .before .before) in
     let n = channelsOf (before (c .before .before .before .before .before .before .before .before .before .before .before .before .before .before .before .before .before .before .before .before .before .before .before .before .before .before .before .before .before .before) .estimator) in
@@ -243,8 +250,8 @@ loop2-again c =
     let band : ℕ = before turn .band in
     let blocks : ℕ = c .before .before .before .before .before .before .before .before .before .before .before .before .before .before .before .before .before .before .one-more2 .result in
     let subband = subband-is (c .before .before .before .before .before .before .before .before) in
-    let row = ap (λ (r : SubbandChannel). subbandRow (s .settings .«onset_detection») r band blocks ch) subband ∙ row-is s u (frame turn .section) (few turn) ch (inside (c .before .before .before .before .before .before .before .before .before .before .before .before .before .before .before)) band blocks in (
-      moving-more s u (c .before .before .before .before .before .before .before .before .before .before .before .before .before .before .before .before .loop2 .inv .0) (inside (c .before .before .before .before .before .before .before .before .before .before .before .before .before .before .before)) (few turn) subband (fullband-is (c .before .before .before .before .before .before)) (c .before .before .before .before .before .ok2 .ensures) (c .before .before .before .before .ok3 .ensures),
+    let row = ap (λ (r : SubbandChannel). subbandRow (s .settings .«onset_detection») r band blocks ch) subband ∙ row-is s u (section turn) (few turn) ch (inside (c .before .before .before .before .before .before .before .before .before .before .before .before .before .before .before)) band blocks in (
+      moving-more s u (c .before .before .before .before .before .before .before .before .before .before .before .before .before .before .before .before .loop2 .inv .0) (inside (c .before .before .before .before .before .before .before .before .before .before .before .before .before .before .before)) (few turn) subband (fullband-is (c .before .before .before .before .before .before)) (c .before .before .before .before .before .ok .ensures) (c .before .before .before .before .ok2 .ensures),
       listing-more (c .before .before .before .before .before .before .before .before .before .before .before .before .before .before .before .before .loop2 .inv .1) (inside (c .before .before .before .before .before .before .before .before .before .before .before .before .before .before .before)) (rw row at (c .before .before .put-subband-row .ensures)),
     )
 
@@ -254,20 +261,29 @@ last : (c : tie.After-loop2 Inv-loop2 μ-loop2 Inv-loop μ-loop) → c .before .
 last c = omega (arith, c .before .loop2 .inv .1 .to, c .loop2-test .left)
 
 moved : (c : tie.After-loop2 Inv-loop2 μ-loop2 Inv-loop μ-loop) → c .before .loop2 .estimator ≡ updated (from (c .before)) (update (c .before .before .before .before .before .before .before .before .before .before .before .before .before .before .before .before .before .before .before .before .before))
-moved c = moving-all (from (c .before)) (update (c .before .before .before .before .before .before .before .before .before .before .before .before .before .before .before .before .before .before .before .before .before)) (few (c .before .before .before .before .before .before .before .before .before .before .before .before .before .before .before .before .before .before .before .before .before)) (c .before .loop2 .inv .0) (omega (arith, last c)) (frame (c .before .before .before .before .before .before .before .before .before .before .before .before .before .before .before .before .before .before .before .before .before) .section)
+moved c = moving-all (from (c .before)) (update (c .before .before .before .before .before .before .before .before .before .before .before .before .before .before .before .before .before .before .before .before .before)) (few (c .before .before .before .before .before .before .before .before .before .before .before .before .before .before .before .before .before .before .before .before .before)) (c .before .loop2 .inv .0) (omega (arith, last c)) (section (c .before .before .before .before .before .before .before .before .before .before .before .before .before .before .before .before .before .before .before .before .before))
+
+-- the state after the block
+abbrev after-state : tie.After-loop2 Inv-loop2 μ-loop2 Inv-loop μ-loop → Trace
+after-state c = record { estimator = c .before .loop2 .estimator; band = before (c .before .before .before .before .before .before .before .before .before .before .before .before .before .before .before .before .before .before .before .before .before) .band; blocks = c .before .before .before .one-more2 .result; records = c .before .before .one-more3 .result }
+
+-- it has the settings of the state before, so that 20 asks the same of both but for the records
+same-settings : (c : tie.After-loop2 Inv-loop2 μ-loop2 Inv-loop μ-loop) → c .before .loop2 .estimator .settings ≡ before (c .before .before .before .before .before .before .before .before .before .before .before .before .before .before .before .before .before .before .before .before .before) .estimator .settings
+unfolding updated
+same-settings c = ap (λ (e : ErleEstimator). e .settings) (moved c)
 
 still-passes :
     (c : tie.After-loop2 Inv-loop2 μ-loop2 Inv-loop μ-loop)
-    → (c .before .loop2 .state-ok ≡ true → stateOk (c .before .loop2 .estimator) ≡ true)
-    × (stateOk (c .before .loop2 .estimator) ≡ true → c .before .loop2 .state-ok ≡ true)
+    → (c .before .loop2 .passes ≡ true → traceOk (after-state c) ≡ true) × (traceOk (after-state c) ≡ true → c .before .loop2 .passes ≡ true)
 unfolding stateOk
 still-passes c =
+    let turn = c .before .before .before .before .before .before .before .before .before .before .before .before .before .before .before .before .before .before .before .before .before in
     let s = from (c .before) in
-    let u = update (c .before .before .before .before .before .before .before .before .before .before .before .before .before .before .before .before .before .before .before .before .before) in
+    let u = update turn in
     let m = c .before .loop2 .inv .0 in
-    let section = frame (c .before .before .before .before .before .before .before .before .before .before .before .before .before .before .before .before .before .before .before .before .before) .section in (
-      λ all. ap stateOk (moved c) ∙ moving-ok s u (few (c .before .before .before .before .before .before .before .before .before .before .before .before .before .before .before .before .before .before .before .before .before)) m (omega (arith, last c)) section (passes (c .before .before .before .before .before .before .before .before .before .before .before .before .before .before .before .before .before .before .before .before .before)) all,
-      λ ok. moving-told s u (few (c .before .before .before .before .before .before .before .before .before .before .before .before .before .before .before .before .before .before .before .before .before)) m (omega (arith, last c)) section (sym (ap stateOk (moved c)) ∙ ok),
+    let over : channelsOf (before turn .estimator) ≤ c .before .loop2 .ch = omega (arith, last c) in (
+      λ all. same-but-records (before turn) (after-state c) (same-settings c) (form turn .some) (few turn) (state-passes turn) (ap stateOk (moved c) ∙ moving-ok s u (few turn) m over (section turn) (passes turn) all),
+      λ ok. moving-told s u (few turn) m over (section turn) (sym (ap stateOk (moved c)) ∙ records-pass (before turn) (after-state c) (same-settings c) (form turn .some) (few turn) ok),
     )
 
 loop-again : tie.Need-loop-again Inv-loop2 μ-loop2 Inv-loop μ-loop
@@ -279,7 +295,7 @@ loop-again c =
     let text = at .inv .1 .text in
     let all : lines (tab (at .ch) (rowAt (updated (from (c .before)) (update turn)) (before turn .band) (c .before .before .before .one-more2 .result))) ≡ lines (tab (channelsOf (before turn .estimator)) (rowAt (at .estimator) (before turn .band) (c .before .before .before .one-more2 .result))) =
     λ i. lines (tab (last c i) (rowAt (sym after i) (before turn .band) (c .before .before .before .one-more2 .result))) in
-    let stepped = block-stepped (before turn) (rest turn) (frame turn) (passes turn) (values (c .before .before .before .before .before .before .before .before .before .before)) (started turn) (c .before .before .before .before .before .before .before .before .before .before .before .before .before .before .before .before .before .before .before .before .before .before .before .before .before .before .before .loop .out) (c .before .before .before .before .before .before .before .before .before .before .before .before .before .before .before .before .before .before .before .before .before .before .before .before .before .before .before .loop .at) (room turn)
+    let stepped = block-stepped (before turn) (rest turn) (frame turn) (state-passes turn) (values (c .before .before .before .before .before .before .before .before .before .before)) (started turn) (c .before .before .before .before .before .before .before .before .before .before .before .before .before .before .before .before .before .before .before .before .before .before .before .before .before .before .before .loop .out) (c .before .before .before .before .before .before .before .before .before .before .before .before .before .before .before .before .before .before .before .before .before .before .before .before .before .before .before .loop .at) (room turn)
     (after ∙ ap (λ e. updated e (update turn)) is) (c .before .before .before .one-more2 .ensures) (c .before .before .one-more3 .ensures)
     (text .text ∙ ap (laid (c .before .before .before .before .before .before .before .before .before .before .before .before .before .before .before .before .before .before .before .before .before .before .before .before .before .before .before .loop .out) (c .before .before .before .before .before .before .before .before .before .before .before .before .before .before .before .before .before .before .before .before .before .before .before .before .before .before .before .loop .at)) all, text .place ∙ ap (λ l. c .before .before .before .before .before .before .before .before .before .before .before .before .before .before .before .before .before .before .before .before .before .before .before .before .before .before .before .loop .at + length l) all) in (
       walk-on (c .before .before .before .before .before .before .before .before .before .before .before .before .before .before .before .before .before .before .before .before .before .before .before .before .before .before .before .loop .inv .0) (frame turn) (long turn) (started turn) stepped,
@@ -299,12 +315,12 @@ here c = walk (c .loop .estimator) (c .before .before .before .before .before .a
 -- a record that is taken passes the tests
 all-pass :
     (c : tie.After-has-room Inv-loop2 μ-loop2 Inv-loop μ-loop) → takes (c .before .before .before .before .before .before .before .before .before .before .args .input .now) (here (c .before .before .before .before .before)) ≡ true
-    → (((c .before .before .before .before .before .loop .state-ok && leb (c .before .before .before .before .before .loop .estimator .«startup_phase_length_blocks») (c .before .before .before .one-more .result)) && ltb 0 (c .before .block-frame-length .result)) && c .has-room .result) ≡ true
+    → (((c .before .before .before .before .before .loop .passes && leb (c .before .before .before .before .before .loop .estimator .«startup_phase_length_blocks») (c .before .before .before .one-more .result)) && ltb 0 (c .before .block-frame-length .result)) && c .has-room .result) ≡ true
 all-pass c taken =
     let input = c .before .before .before .before .before .before .before .before .before .before .args .input .now in
     let w = here (c .before .before .before .before .before) in
     let frame = taken-frame input w taken in
-    let long = c .before .block-frame-length .ensures ∙ ap (blockFrameLength (w .state .estimator .settings)) (lent-ahead input (w .used)) ∙ frame-long _ _ frame in
+    let long = c .before .block-frame-length .ensures ∙ ap (blockFrameLength (standingOf (w .state))) (lent-ahead input (w .used)) ∙ frame-long _ _ frame in
     simp (
       c .before .before .before .before .before .loop .inv .3 .1 (taken-state input w taken),
       ap (leb (w .state .estimator .«startup_phase_length_blocks»)) (c .before .before .before .one-more .ensures) ∙ taken-started input w taken,
@@ -323,7 +339,7 @@ returns c =
     (λ i. record { state = e i .state; used = e i .used; at = e i .at }, (ap (λ (w : Walk). w .out) e, c .before .before .before .before .before .before .loop .inv .1))
 
 at-the-values : (c : tie.Then2 Inv-loop2 μ-loop2 Inv-loop μ-loop) → here (c .before .before .before .before .before .before .before .before .before .before .before .before .before .before .before .before .before) ≡ walked (c .before .before .before .before .before .before .before .before .before .before .before .before .before .before .before .before .before .before .before .before .before .before .args .t) (c .before .before .before .before .before .before .before .before .before .before .before .before .before .before .before .before .before .before .before .before .before .before .args .input .now) (c .before .before .before .before .before .before .before .before .before .before .before .before .before .before .before .before .before .before .before .before .before .before .args .out .now) (c .before .before .before .before .before .before .before .before .before .before .before .before .before .before .before .before .before .before .before .before .before .before .args .at)
-unfolding walked
+unfolding walked blockIn
 at-the-values c =
     let t = tables (c .before .before .before .before .before .before .before .before .before) in
     walk-ended (c .before .before .before .before .before .before .before .before .before .before .before .before .before .before .before .before .before .loop .inv .0)

@@ -2,7 +2,8 @@ use mathlib.Core.Path.{sym, _∙_}
 use borrow.Author.Needs.{needs}
 use borrow.Author.Tests.{eq-eqb, ne-eqb, not-true, not-false}
 use Rattle.aec3_common.proofs.Ranges.{to-hi}
-use Rattle.trace_records.specs.Judge.{blockForm}
+use Rattle.trace_records.specs.Records.{blockIn}
+use Rattle.trace_records.specs.Judge.{judgedWith}
 use Rattle.trace_records.proofs.judge.block_form.Statement.{statement}
 use Rattle.trace_records.proofs.judge.block_form.Tie as tie
 
@@ -13,17 +14,17 @@ few-for-flags : tie.Need-flags-ok-requires
 few-for-flags c κs = to-hi 1 4 _ (sym (c .before .before .before .capture-channels-ok .ensures) ∙ not-false _ (c .before .before .if1 .left))
 
 out-of-place : tie.Need-returns
-unfolding blockForm
+unfolding judgedWith blockIn
 out-of-place c = simp (sym (c .before .capture-channels-ok .ensures) ∙ not-true _ (c .if1 .taken))
 
 another-length : tie.Need-returns-2
-unfolding blockForm
+unfolding judgedWith blockIn
 another-length c =
     let other = rw (c .before .block-length .ensures) at (c .if2 .taken) in
     simp (sym (c .before .before .before .capture-channels-ok .ensures) ∙ not-false _ (c .before .before .if1 .left), ne-eqb _ _ other)
 
 bad-flag : tie.Need-returns-3
-unfolding blockForm
+unfolding judgedWith blockIn
 bad-flag c =
     let long = c .before .before .if2 .left ∙ c .before .before .before .block-length .ensures in
     simp (
@@ -33,7 +34,7 @@ bad-flag c =
     )
 
 good : tie.Need-returns-4
-unfolding blockForm
+unfolding judgedWith blockIn
 good c =
     let long = c .before .before .if2 .left ∙ c .before .before .before .block-length .ensures in
     simp (

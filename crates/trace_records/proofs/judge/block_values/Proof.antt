@@ -3,7 +3,8 @@ use mathlib.Core.Path.{sym, ap, _∙_}
 use native.Mathlib.Omega.{arith}
 use borrow.Author.Needs.{needs}
 use lib.ListN.{length}
-use Rattle.trace_records.specs.Judge.{blockValues}
+use Rattle.trace_records.specs.Records.{blockIn}
+use Rattle.trace_records.specs.Judge.{valueRefusal}
 use Rattle.trace_records.proofs.Blocks.{block-tables, length-capture, length-residual}
 use Rattle.trace_records.proofs.judge.block_values.Statement.{statement}
 use Rattle.trace_records.proofs.judge.block_values.Tie as tie
@@ -29,13 +30,13 @@ residual-long c =
     sym (ap length (tables .residual) ∙ length-residual _ _)
 
 good : tie.Need-returns
-unfolding blockValues
+unfolding valueRefusal blockIn
 good c =
     let tables = block-tables _ _ _ (c .before .before .before .before .before .before .before .before .before .before .pre .0) (c .before .before .before .before .before .before .before .before .before .before .pre .1) (c .before .before .before .before .before .before .before .before .block-in .ensures) in
     simp (sym (tables .render), sym (tables .capture), sym (tables .residual), sym (c .before .all-values-ok .ensures) ∙ c .if1 .taken)
 
 bad : tie.Need-returns-2
-unfolding blockValues
+unfolding valueRefusal blockIn
 bad c =
     let tables = block-tables _ _ _ (c .before .before .before .before .before .before .before .before .before .before .pre .0) (c .before .before .before .before .before .before .before .before .before .before .pre .1) (c .before .before .before .before .before .before .before .before .block-in .ensures) in
     simp (sym (tables .render), sym (tables .capture), sym (tables .residual), sym (c .before .all-values-ok .ensures) ∙ c .if1 .left)

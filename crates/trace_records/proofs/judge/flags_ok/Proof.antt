@@ -6,8 +6,8 @@ use borrow.Author.Needs.{needs}
 use Rattle.aec3_common.specs.Lists.{tab}
 use Rattle.aec3_common.proofs.Every.{Tested, tested-none, tested-more, tested-all}
 use Rattle.aec3_common.proofs.Tables.{length-tab, getD-tab}
-use Rattle.trace_records.specs.Records.{convergedByte}
-use Rattle.trace_records.specs.Judge.{flagOk, flagsOk}
+use Rattle.trace_records.specs.Records.{convergedByte, flagsIn}
+use Rattle.trace_records.specs.Judge.{flagOk}
 use Rattle.trace_records.proofs.judge.flags_ok.Statement.{statement}
 use Rattle.trace_records.proofs.judge.flags_ok.Tie as tie
 
@@ -22,15 +22,15 @@ begun c = tested-none _ _
 
 again : tie.Need-loop-again Inv-loop μ-loop
 again c =
-    let n = c .before .before .before .before .args .num-capture-channels in
-    let byte = convergedByte (c .before .before .before .before .args .«record» .now) in
-    let below = c .before .loop-test .taken in
-    tested-more 0 (c .before .before .loop .inv)
+    let n = c .before .before .before .before .before .args .num-capture-channels in
+    let byte = convergedByte (c .before .before .before .before .before .args .«record» .now) in
+    let below = c .before .before .loop-test .taken in
+    tested-more 0 (c .before .before .before .loop .inv)
     (omega (arith, length-tab n byte))
-    (c .flag-ok .ensures ∙ ap flagOk (sym (getD-tab n byte _ 0 below)))
+    (c .flag-ok .ensures ∙ ap flagOk (c .before .byte-at .ensures .0 ∙ sym (getD-tab n byte _ 0 below)))
 
 done : tie.Need-returns Inv-loop μ-loop
-unfolding flagsOk
+unfolding flagsIn
 done c =
     let n = c .before .before .before .args .num-capture-channels in
     let byte = convergedByte (c .before .before .before .args .«record» .now) in
@@ -44,6 +44,7 @@ flags-ok-spec =
     μ-loop
     begun
     (λ c. search needs)
+    (λ c κs. search needs)
     (λ c κs. search needs)
     (λ c. search needs)
     (λ c. search needs)

@@ -5,7 +5,8 @@ use Prim.Native.Nat.{_-_}
 use Rattle.aec3_common.specs.Lists.{tab}
 use Rattle.aec3_common.proofs.Loops.{loops}
 use Rattle.aec3_common.proofs.Tables.{Stored}
-use Rattle.trace_records.specs.Records.{isSet, convergedByte, flagsIn}
+use Rattle.trace_records.specs.Records.{isSet, convergedByte}
+use Rattle.trace_records.proofs.Blocks.{flags-tab}
 use Rattle.trace_records.proofs.Tables.{stored-in-table}
 use Rattle.trace_records.proofs.records.flags_in.Statement.{statement}
 use Rattle.trace_records.proofs.records.flags_in.Tie as tie
@@ -17,8 +18,8 @@ abbrev μ-loop : tie.MeasureT-loop
 μ-loop «record» channels flags₀ ch₀ flags ch = channels - ch
 
 returns : tie.Need-returns Inv-loop μ-loop
-unfolding flagsIn tab
-returns c = stored-in-table false (c .before .loop .inv) (c .loop-test .left) refl
+unfolding tab
+returns c = rw flags-tab (stored-in-table false (c .before .loop .inv) (c .loop-test .left) refl)
 
 pub flags-in-spec : {M : Type 1} → statement M
 flags-in-spec =

@@ -7,11 +7,13 @@ returns : tie.Need-returns
 unfolding settingsIn
 returns c =
     rw (
-      c .before .before .before .before .value-at .ensures,
-      c .before .before .before .value-at2 .ensures,
-      c .before .before .value-at3 .ensures,
-      c .before .flag-at .ensures,
-      c .byte-at .ensures .0,
+      c .before .before .before .before .before .before .value-at .ensures,
+      c .before .before .before .before .before .value-at2 .ensures,
+      c .before .before .before .before .value-at3 .ensures,
+      c .before .before .before .byte-at .ensures .0,
+      c .before .before .byte-at2 .ensures .0,
+      c .before .word-at .ensures,
+      c .byte-at3 .ensures .0,
     )
 
 pub settings-in-spec : {M : Type 1} → statement M
@@ -20,6 +22,9 @@ settings-in-spec =
     (tie.spec
     (λ c κs. search needs)
     (λ c κs. search needs)
+    (λ c κs. search needs)
+    (λ c κs. search needs)
+    (λ c. search needs)
     (λ c κs. search needs)
     (λ c κs. search needs)
     (λ c κs. search needs)

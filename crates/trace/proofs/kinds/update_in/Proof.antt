@@ -9,8 +9,9 @@ use lib.Seq.{length-take-le}
 use Rattle.aec3_common.specs.Lists.{tab}
 use Rattle.trace_records.proofs.Blocks.{Tables, block-tables}
 use Rattle.trace.specs.Apply.{channelsOf, updateIn}
-use Rattle.trace.proofs.answers.update_in.Statement.{statement}
-use Rattle.trace.proofs.answers.update_in.Tie as tie
+use Rattle.trace_records.specs.Records.{blockIn}
+use Rattle.trace.proofs.kinds.update_in.Statement.{statement}
+use Rattle.trace.proofs.kinds.update_in.Tie as tie
 
 abbrev channels : tie.After-block-in → ℕ
 channels c = channelsOf (c .before .before .args .estimator)
@@ -32,7 +33,7 @@ zeros (suc (suc (suc (suc zero)))) h = refl
 zeros (suc (suc (suc (suc (suc n))))) h = absurd (omega arith)
 
 returns : tie.Need-returns
-unfolding updateIn tab
+unfolding updateIn blockIn tab
 returns c =
     let call = c .before .before .before .before .before .before .before .before .before .before .before .before in
     let t = tables call in

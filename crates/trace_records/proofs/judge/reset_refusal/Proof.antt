@@ -1,21 +1,21 @@
 use mathlib.Core.Path.{sym, _∙_}
 use borrow.Author.Needs.{needs}
 use borrow.Author.Tests.{eq-eqb, ne-eqb, not-true, not-false}
-use Rattle.trace_records.specs.Judge.{resetForm}
-use Rattle.trace_records.proofs.judge.reset_form.Statement.{statement}
-use Rattle.trace_records.proofs.judge.reset_form.Tie as tie
+use Rattle.trace_records.specs.Judge.{judgedWith, valueRefusal, recordRefusal}
+use Rattle.trace_records.proofs.judge.reset_refusal.Statement.{statement}
+use Rattle.trace_records.proofs.judge.reset_refusal.Tie as tie
 
 out-of-place : tie.Need-returns
-unfolding resetForm
+unfolding recordRefusal judgedWith valueRefusal
 out-of-place c = simp (sym (c .before .capture-channels-ok .ensures) ∙ not-true _ (c .if1 .taken))
 
 another-length : tie.Need-returns-2
-unfolding resetForm
+unfolding recordRefusal judgedWith valueRefusal
 another-length c =
     simp (sym (c .before .before .capture-channels-ok .ensures) ∙ not-false _ (c .before .if1 .left), ne-eqb _ _ (c .if2 .taken))
 
 bad-flag : tie.Need-returns-3
-unfolding resetForm
+unfolding recordRefusal judgedWith valueRefusal
 bad-flag c =
     simp (
       sym (c .before .before .before .before .capture-channels-ok .ensures) ∙ not-false _ (c .before .before .before .if1 .left),
@@ -24,7 +24,7 @@ bad-flag c =
     )
 
 good : tie.Need-returns-4
-unfolding resetForm
+unfolding recordRefusal judgedWith valueRefusal
 good c =
     simp (
       sym (c .before .before .before .before .capture-channels-ok .ensures) ∙ not-false _ (c .before .before .before .if1 .left),
@@ -32,7 +32,7 @@ good c =
       sym (c .before .flag-ok .ensures) ∙ not-false _ (c .if3 .left),
     )
 
-pub reset-form-spec : {M : Type 1} → statement M
-reset-form-spec =
+pub reset-refusal-spec : {M : Type 1} → statement M
+reset-refusal-spec =
     tie.close
     (tie.spec (λ c κs. search needs) (λ c κs. search needs) out-of-place another-length bad-flag good)

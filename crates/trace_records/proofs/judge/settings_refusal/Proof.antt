@@ -1,0 +1,39 @@
+use mathlib.Core.Path.{sym, _∙_}
+use borrow.Author.Needs.{needs}
+use borrow.Author.Tests.{eq-eqb, ne-eqb, not-true, not-false}
+use Rattle.trace_records.specs.Judge.{judgedWith, valueRefusal, recordRefusal}
+use Rattle.trace_records.proofs.judge.settings_refusal.Statement.{statement}
+use Rattle.trace_records.proofs.judge.settings_refusal.Tie as tie
+
+out-of-place : tie.Need-returns
+unfolding recordRefusal judgedWith valueRefusal
+out-of-place c = simp (sym (c .before .capture-channels-ok .ensures) ∙ c .if1 .taken)
+
+another-length : tie.Need-returns-2
+unfolding recordRefusal judgedWith valueRefusal
+another-length c =
+    simp (sym (c .before .before .capture-channels-ok .ensures) ∙ c .before .if1 .left, ne-eqb _ _ (c .if2 .taken))
+
+bad-flag : tie.Need-returns-3
+unfolding recordRefusal judgedWith valueRefusal
+bad-flag c =
+    simp (
+      sym (c .before .before .before .before .capture-channels-ok .ensures) ∙ c .before .before .before .if1 .left,
+      eq-eqb _ _ (c .before .before .if2 .left),
+      sym (c .before .flag-and-band-ok .ensures) ∙ not-true _ (c .if3 .taken),
+    )
+
+good : tie.Need-returns-4
+unfolding recordRefusal judgedWith valueRefusal
+good c =
+    simp (
+      sym (c .before .before .before .before .before .capture-channels-ok .ensures) ∙ c .before .before .before .before .if1 .left,
+      eq-eqb _ _ (c .before .before .before .if2 .left),
+      sym (c .before .before .flag-and-band-ok .ensures) ∙ not-false _ (c .before .if3 .left),
+      c .limits-and-channels-refusal .ensures,
+    )
+
+pub settings-refusal-spec : {M : Type 1} → statement M
+settings-refusal-spec =
+    tie.close
+    (tie.spec (λ c κs. search needs) (λ c κs. search needs) (λ c κs. search needs) out-of-place another-length bad-flag good)
