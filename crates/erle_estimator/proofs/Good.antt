@@ -17,7 +17,7 @@ use Rattle.fullband_erle_estimator.specs.FullBand.{started as FullBand·started
 use Rattle.fullband_erle_estimator.proofs.Runs.{Kept as FullBandKept, started-kept as fullband-started, updated-kept as fullband-updated, state-ok as fullband-ok}
 use Rattle.erle_estimator.specs.declared.ErleEstimator.{ErleEstimator}
 use Rattle.erle_estimator.specs.Parts.{subbandSettings, signalSettings, fullbandSettings, subbandPart, signalPart, fullbandPart, withRecords}
-use Rattle.erle_estimator.specs.Erle.{Update, stateOk, stateRefusal, updateRefusal, startedWith, startAnswer, blocksKept, resetAnswer, counted, updated, afterAccepted, updateAnswer}
+use Rattle.erle_estimator.specs.Erle.{Update, stateOk, stateRefusal, updateRefusal, startedWith, startAnswer, blocksKept, afterReset, resetAnswer, counted, updated, afterAccepted, updateAnswer}
 use Rattle.erle_estimator.proofs.Judged.{signal-settings-passed, subband-settings-passed, fullband-settings-passed, subband-passed, fullband-passed, Accepted, accepted-call, fits}
 
 -- settings that pass, and what each part keeps
@@ -57,7 +57,7 @@ start-good startup g e = rw e (started-good startup 0 g e)
 
 -- a reset, accepted or refused, does too
 pub reset-good : (s : ErleEstimator) (delayChange : Bool) → Good s → Good (resetAnswer s delayChange .state)
-unfolding resetAnswer
+unfolding resetAnswer afterReset
 reset-good s delayChange good =
     cond-has Good (eqb (stateRefusal s) accepted)
     (λ e. started-good (s .«startup_phase_length_blocks») (blocksKept delayChange (s .«blocks_since_reset»)) (s .settings) (good .settings))

@@ -83,16 +83,14 @@ unfoldable pub blocksKept : Bool → ℕ → ℕ
 blocksKept delayChange blocks = cond delayChange 0 blocks
 
 -- A reset leaves every part as a start with the state's settings does, in all four records; the startup count stays.
+unfoldable pub afterReset : ErleEstimator → Bool → ErleEstimator
+afterReset s delayChange =
+    startedWith (s .«startup_phase_length_blocks») (blocksKept delayChange (s .«blocks_since_reset»)) (s .settings)
+
 unfoldable pub resetAnswer : ErleEstimator → Bool → ErleAnswer
 resetAnswer s delayChange =
     let n = stateRefusal s in
-    record {
-      state =
-          cond (eqb n accepted)
-          (startedWith (s .«startup_phase_length_blocks») (blocksKept delayChange (s .«blocks_since_reset»)) (s .settings))
-          s;
-      refused = n;
-    }
+    record { state = cond (eqb n accepted) (afterReset s delayChange) s; refused = n }
 
 -- one block more
 unfoldable pub counted : ErleEstimator → ErleEstimator

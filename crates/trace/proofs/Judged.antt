@@ -33,9 +33,9 @@ first-alone zero = refl
 first-alone (suc n) = rw (ne-eqb (suc n) accepted (λ e. omega arith))
 
 -- a settings record has one section, which number 3 lets pass
-pub start-judged : (l : ℕ) (s : SettingsRecord) → settingsRefusal (erleSettings s) ≡ valueRefusal (settings l s)
+pub start-judged : (s : SettingsRecord) → settingsRefusal (erleSettings s) ≡ valueRefusal (settings s)
 unfolding settingsRefusal sectionedSettingsRefusal sectionsOk erleSettings valueRefusal
-start-judged l s = first-alone (valueRefusal (settings l s))
+start-judged s = first-alone (valueRefusal (settings s))
 
 -- no response blocks
 abbrev none : ℕ → ℕ
@@ -88,20 +88,20 @@ module _ (n : ℕ) (r : List ℕ) where
   -- the estimator's judging of a block in form, of a state that number 20 lets pass and that has no headroom: the record's values, no more
   pub update-judged :
       (e : ErleEstimator) → channelsOf e ≡ n → stateOk e ≡ true → e .settings .«delay_headroom_samples» ≡ 0
-      → updateRefusal e (updateIn n b) ≡ valueRefusal (block (length r) b)
+      → updateRefusal e (updateIn n b) ≡ valueRefusal (block b)
   unfolding updateRefusal valueRefusal updateIn ringRefusal
   update-judged e count ok flat =
       rw (ok, eq-eqb n (channelsOf e) (sym count), flat, lengths-pass (e .settings .«filter_length_blocks»), values-same)
 
--- a state whose settings stand, and that 20 lets pass
+-- a state with channels that 20 lets pass
 pub passing :
-    (t : Trace) → 1 ≤ channelsOf (t .estimator) → channelsOf (t .estimator) ≤ 4 → traceOk t ≡ true
+    (t : Trace) → 1 ≤ channelsOf (t .estimator) → traceOk t ≡ true
     → (stateOk (t .estimator) ≡ true) × (t .estimator .settings .«num_sections» ≡ 1) × (t .estimator .settings .«delay_headroom_samples» ≡ 0)
 unfolding traceOk
-passing t some few ok =
+passing t some ok =
     let e = t .estimator in
     let one = eqb (e .settings .«num_sections») 1 in
     let flat = eqb (e .settings .«delay_headroom_samples») 0 in
-    let both : stateOk e && (one && flat) ≡ true = rw (le-leb 1 (channelsOf e) some, le-leb (channelsOf e) 4 few) at ok in
+    let both : stateOk e && (one && flat) ≡ true = rw (ne-eqb (channelsOf e) 0 (λ z. omega arith)) at ok in
     let settings = and-right (stateOk e) (one && flat) both in
     (and-left (stateOk e) (one && flat) both, eqb-true _ _ (and-left one flat settings), eqb-true _ _ (and-right one flat settings))

@@ -1,5 +1,5 @@
 -- What a record does to the state of a trace, and the rows that it gives.
-use mathlib.Core.Bool.{Bool, not, _&&_, _||_}
+use mathlib.Core.Bool.{Bool, _&&_, _||_}
 use mathlib.Core.List.{List, [], map}
 use Prim.Native.Nat.{ℕ}
 use lib.Dec.{eqb}
@@ -16,10 +16,9 @@ use Rattle.signal_dependent_erle_estimator.specs.declared.channel.SignalDepende
 use Rattle.signal_dependent_erle_estimator.specs.SignalDependent.{channelAt as SignalDependent·channelAt}
 use Rattle.erle_estimator.specs.declared.ErleEstimator.{ErleEstimator}
 use Rattle.erle_estimator.specs.Parts.{subbandPart, signalPart}
-use Rattle.erle_estimator.specs.Erle.{Update, stateOk, refusedSettings, startAnswer, updateAnswer, resetAnswer, streamsShown}
+use Rattle.erle_estimator.specs.Erle.{Update, stateOk, refusedSettings, startedWith, afterReset, afterAccepted, streamsShown}
 use Rattle.trace_records.specs.declared.judge.Standing.{Standing}
 use Rattle.trace_records.specs.Records.{BlockRecord, Record, settings, block, reset, unknown, isSet, erleSettings}
-use Rattle.trace_records.specs.Judge.{stands}
 use Rattle.trace_text.specs.Text.{Item, row}
 use Rattle.trace.specs.declared.Trace.{Trace}
 
@@ -33,7 +32,7 @@ standingOf t = record { «num_capture_channels» = channelsOf (t .estimator) }
 
 -- Before the first record: what a refused start answers with, so that no settings stand; nothing is counted.
 unfoldable pub beginning : Trace
-beginning = record { estimator = startAnswer 0 refusedSettings .state; band = 0; blocks = 0; records = 0 }
+beginning = record { estimator = startedWith 0 0 refusedSettings; band = 0; blocks = 0; records = 0 }
 
 -- ---- number 20
 
@@ -41,13 +40,14 @@ beginning = record { estimator = startAnswer 0 refusedSettings .state; band = 0;
 abbrev pub oneSectionNoHeadroom : ErleSettings → Bool
 oneSectionNoHeadroom g = eqb (g .«num_sections») 1 && eqb (g .«delay_headroom_samples») 0
 
--- Whether 20 lets the state of a trace pass: once settings stand, it lets the estimator pass, and settings records start such a one.
+-- Before settings every state passes. After them 20 lets the estimator pass, and it has one section and no headroom, as settings records
+-- start it.
 unfoldable pub traceOk : Trace → Bool
-traceOk t = not (stands (standingOf t)) || (stateOk (t .estimator) && oneSectionNoHeadroom (t .estimator .settings))
+traceOk t = eqb (channelsOf (t .estimator)) 0 || (stateOk (t .estimator) && oneSectionNoHeadroom (t .estimator .settings))
 
 -- ---- the estimator
 
--- With one section an estimator reads neither ring nor responses: it is lent a ring of one slot and one channel, all zeros, and no
+-- With one section ring and responses change no figure: an estimator is lent a ring of one slot and one channel, all zeros, and no
 -- responses.
 abbrev pub silentRing : RenderRing
 silentRing = record { slots = 1; channels = 1; position = 0 }
@@ -67,58 +67,53 @@ updateIn n b =
       converged = map isSet (b .flags);
     }
 
--- The estimator after an accepted record: settings are a start, a block an update, a reset a reset.
-unfoldable pub estimatorAfter : ErleEstimator → Record → ErleEstimator
-estimatorAfter e (settings l s) = startAnswer (s .startup) (erleSettings s) .state
-estimatorAfter e (block l b) = updateAnswer e (updateIn (channelsOf e) b) .state
-estimatorAfter e (reset l delayFlag) = resetAnswer e (isSet delayFlag) .state
-estimatorAfter e unknown = e
-
 -- ---- the state after an accepted record
 
--- settings say which band is printed
-unfoldable pub bandAfter : ℕ → Record → ℕ
-bandAfter band (settings l s) = s .band
-bandAfter band (block l b) = band
-bandAfter band (reset l delayFlag) = band
-bandAfter band unknown = band
-
--- only blocks count as blocks, over the whole trace
-unfoldable pub blocksAfter : ℕ → Record → ℕ
-blocksAfter blocks (settings l s) = blocks
-blocksAfter blocks (block l b) = oneMore blocks
-blocksAfter blocks (reset l delayFlag) = blocks
-blocksAfter blocks unknown = blocks
-
--- every record counts as a record
+-- Settings are a start, and say which band is printed; a block is an update, and counts as a block, over the whole trace; a reset is a reset. Every
+-- accepted record counts as a record.
 unfoldable pub nextOf : Trace → Record → Trace
-nextOf t r =
+nextOf t (settings s) =
     record {
-      estimator = estimatorAfter (t .estimator) r;
-      band = bandAfter (t .band) r;
-      blocks = blocksAfter (t .blocks) r;
+      estimator = startedWith (s .startup) 0 (erleSettings s);
+      band = s .band;
+      blocks = t .blocks;
       records = oneMore (t .records);
     }
+nextOf t (block b) =
+    record {
+      estimator = afterAccepted (t .estimator) (updateIn (channelsOf (t .estimator)) b);
+      band = t .band;
+      blocks = oneMore (t .blocks);
+      records = oneMore (t .records);
+    }
+nextOf t (reset delayFlag) =
+    record {
+      estimator = afterReset (t .estimator) (isSet delayFlag);
+      band = t .band;
+      blocks = t .blocks;
+      records = oneMore (t .records);
+    }
+nextOf t unknown = t
 
 -- ---- rows
 
 -- a channel's row: a block's number, the channel, and the figures of a band after the block
-unfoldable pub rowOf : ErleSettings → SubbandChannel → SignalDependentChannel → (band number ch : ℕ) → Item
-rowOf g subband signal band number ch =
+unfoldable pub channelRow : ErleSettings → SubbandChannel → SignalDependentChannel → (band number ch : ℕ) → Item
+channelRow g subband signal band number ch =
     let s = streamsShown g subband signal in
     row number ch (getD (s .plain) band nan) (getD (s .compensated) band nan) (getD (s .unbounded) band nan)
 
 unfoldable pub rowAt : ErleEstimator → (band number ch : ℕ) → Item
 rowAt e band number ch =
-    rowOf (e .settings) (Subband·channelAt (subbandPart e) ch) (SignalDependent·channelAt (signalPart e) ch) band number ch
+    channelRow (e .settings) (Subband·channelAt (subbandPart e) ch) (SignalDependent·channelAt (signalPart e) ch) band number ch
 
 -- a row for each channel
-unfoldable pub rowsAt : Trace → List Item
-rowsAt t = tab (channelsOf (t .estimator)) (rowAt (t .estimator) (t .band) (t .blocks))
+unfoldable pub blockRows : Trace → List Item
+blockRows t = tab (channelsOf (t .estimator)) (rowAt (t .estimator) (t .band) (t .blocks))
 
 -- a block gives the rows of the state after it; other records give none
 unfoldable pub rowsOf : Trace → Record → List Item
-rowsOf t (settings l s) = []
-rowsOf t (block l b) = rowsAt (nextOf t (block l b))
-rowsOf t (reset l delayFlag) = []
+rowsOf t (settings s) = []
+rowsOf t (block b) = blockRows (nextOf t (block b))
+rowsOf t (reset delayFlag) = []
 rowsOf t unknown = []

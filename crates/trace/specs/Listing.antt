@@ -5,41 +5,35 @@ use Prim.Native.Nat.{ℕ}
 use lib.Dec.{eqb, leb}
 use lib.ListN.{length, take}
 use Rattle.aec3_common.specs.Counts.{oneMore}
-use Rattle.aec3_common.specs.Refusal.{unless, accepted, badFrame, badState}
+use Rattle.aec3_common.specs.Refusal.{accepted, badFrame}
 use Rattle.encoding.specs.Text.{laid}
 use Rattle.trace_records.specs.Frames.{Frame, whole, bad, frames}
 use Rattle.trace_records.specs.Records.{Record, decoded}
-use Rattle.trace_records.specs.Judge.{recordRefusal}
+use Rattle.trace_records.specs.Judge.{refusalIn}
 use Rattle.trace_text.specs.Text.{Item, refused, header, lines}
 use Rattle.trace.specs.declared.Trace.{Trace}
 use Rattle.trace.specs.declared.listing.Listed.{Listed}
-use Rattle.trace.specs.Apply.{standingOf, beginning, traceOk, nextOf, rowsOf}
+use Rattle.trace.specs.Apply.{standingOf, beginning, nextOf, rowsOf}
 
--- the record that bytes hold, under what stands
+-- the record that bytes hold under what stands, and the number under which it is turned away, or 0
 abbrev pub recordAt : Trace → List ℕ → Record
 recordAt t s = decoded (standingOf t) s
 
--- the number under which a record is turned away, or 0: 20 comes first, for the state; then the record's own
-unfoldable pub refusalAt : Trace → Record → ℕ
-refusalAt t r = unless (traceOk t) badState (recordRefusal (standingOf t) r)
+abbrev pub refusalAt : Trace → List ℕ → ℕ
+refusalAt t s = refusalIn (standingOf t) s
 
 -- the item of a record that is refused: R counts it too
 abbrev pub refusedAt : Trace → ℕ → Item
 refusedAt t number = refused number (oneMore (t .records))
 
--- What a record gives: its rows, or that it is refused. Where it is the state that is turned away, no record is to blame, and there is
--- nothing; no trace comes there (`JudgedAlone`).
-unfoldable pub itemsAt : Trace → Record → List Item
-itemsAt t r =
-    let n = recordRefusal (standingOf t) r in
-    cond (traceOk t) (cond (eqb n accepted) (rowsOf t r) (refusedAt t n ∷ [])) []
+-- what a record gives: its rows, or that it is refused
+unfoldable pub recordItems : Trace → List ℕ → List Item
+recordItems t s = cond (eqb (refusalAt t s) accepted) (rowsOf t (recordAt t s)) (refusedAt t (refusalAt t s) ∷ [])
 
 -- what the records of a trace give: a bad record ends the run
 unfoldable pub itemsOf : Trace → List Frame → List Item
 itemsOf t [] = []
-itemsOf t (whole s ∷ fs) =
-    let r = recordAt t s in
-    itemsAt t r ++ cond (eqb (refusalAt t r) accepted) (itemsOf (nextOf t r) fs) []
+itemsOf t (whole s ∷ fs) = recordItems t s ++ cond (eqb (refusalAt t s) accepted) (itemsOf (nextOf t (recordAt t s)) fs) []
 itemsOf t (bad ∷ fs) = refusedAt t badFrame ∷ []
 
 -- the lines of the bytes that are left

@@ -1,4 +1,4 @@
--- What inner functions of the code promise that list a trace; no part of the definition.
+-- What the inner functions promise that list a trace; no part of the definition.
 use mathlib.Core.Path.{_≡_}
 use mathlib.Core.Bool.{Bool, cond, _&&_}
 use mathlib.Core.List.{List}
@@ -13,18 +13,18 @@ use Rattle.trace.specs.declared.Trace.{Trace}
 use Rattle.trace.specs.declared.listing.Turn.{Turn}
 use Rattle.trace.specs.declared.listing.Listed.{Listed}
 use Rattle.trace.specs.Apply.{nextOf}
-use Rattle.trace.specs.Listing.{recordAt, refusalAt, refusedAt}
-use Rattle.trace.specs.Steps.{stepText}
+use Rattle.trace.specs.Listing.{recordAt, refusedAt}
+use Rattle.trace.specs.Steps.{stepRefusal, stepText}
 
 -- the lines of what some bytes begin with
 unfoldable pub turnText : Trace → List ℕ → List ℕ
-turnText t s = cond (framed s) (stepText t (recordAt t (recordIn s))) (line (refusedAt t badFrame))
+turnText t s = cond (framed s) (stepText t (recordIn s)) (line (refusedAt t badFrame))
 
 -- whether the run goes on behind it
 unfoldable pub goesOn : Trace → List ℕ → Bool
-goesOn t s = framed s && eqb (refusalAt t (recordAt t (recordIn s))) accepted
+goesOn t s = framed s && eqb (stepRefusal t (recordIn s)) accepted
 
--- the lines are at the front of a table, and the answer says what is left
+-- the lines are at the front of a table, and the answer says how many bytes are done with
 pub record Turned (t : Trace) (s text : List ℕ) (a : Turn) : Type 0 where
   pub front : take (a .length) text ≡ turnText t s
   pub long : a .length ≡ length (turnText t s)

@@ -7,6 +7,7 @@ use crate::steps::step;
 use aec3_common::refusal::ACCEPTED;
 use encoding::put_bytes;
 use trace_records::frame_length;
+use trace_records::frames::LENGTH_SIZE;
 use trace_text::put_header;
 ghost use mathlib.Core.Path.{_≡_};
 ghost use Prim.Native.Nat.{_<_, _≤_};
@@ -20,7 +21,7 @@ pub struct Listed {
     pub fits: bool,
 }
 
-// What the first of some bytes gave: the state after it, how many of the bytes are done with, and how long its lines are.
+// What the record at the front of some bytes gave: the state after it, how many of the bytes are done with, and how long its lines are.
 struct Turn {
     state: Trace,
     used: usize,
@@ -41,8 +42,8 @@ fn take_turn(t: Trace, s: &[u8], text: &mut [u8]) -> Turn
             length,
         };
     }
-    let end = 4 + n;
-    let stepped = step(t, &s[4..end], text, 0);
+    let end = LENGTH_SIZE + n;
+    let stepped = step(t, &s[LENGTH_SIZE..end], text, 0);
     let state = stepped.state;
     let length = stepped.at;
     if stepped.refused == ACCEPTED {

@@ -12,7 +12,7 @@ ghost use lib.ListN.{length, getD};
 ghost use Rattle.aec3_common.specs.Lists.{tab};
 ghost use Rattle.encoding.specs.Text.{laid, written, after};
 ghost use Rattle.trace_text.specs.Text.{line, lines};
-ghost use Rattle.trace.specs.Apply.{rowOf, rowAt};
+ghost use Rattle.trace.specs.Apply.{channelRow, rowAt};
 
 // The figure of a band; there is none beyond the last.
 pub fn figure_at(stream: &[f32], band: usize) -> f32
@@ -36,8 +36,8 @@ fn put_channel(
     block: u32,
     ch: u32,
 ) -> usize
-    ensures { λ _. ⌜ now (out .exit) ≡ written (now (out .entry)) at (line (rowOf settings subband «signal_dependent» band block ch)) ⌝ }
-    ensures { λ r. ⌜ r ≡ after (now (out .entry)) at (line (rowOf settings subband «signal_dependent» band block ch)) ⌝ }
+    ensures { λ _. ⌜ now (out .exit) ≡ written (now (out .entry)) at (line (channelRow settings subband «signal_dependent» band block ch)) ⌝ }
+    ensures { λ r. ⌜ r ≡ after (now (out .entry)) at (line (channelRow settings subband «signal_dependent» band block ch)) ⌝ }
 {
     let streams = erle_streams(settings, subband, signal_dependent);
     let plain = streams.plain;

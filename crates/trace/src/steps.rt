@@ -9,7 +9,6 @@ use aec3_common::refusal::ACCEPTED;
 use aec3_common::refusal::BAD_FRAME;
 use aec3_common::refusal::BAD_STATE;
 use aec3_common::refusal::UNKNOWN_KIND;
-use aec3_common::settings::capture_channels_ok;
 use erle_estimator::ErleEstimator;
 use erle_estimator::ErleSettings;
 use trace_records::Decoded;
@@ -23,7 +22,6 @@ ghost use Rattle.aec3_common.specs.Refusal.{badFrame};
 ghost use Rattle.encoding.specs.Text.{written, after};
 ghost use Rattle.trace_text.specs.Text.{refused, line};
 ghost use Rattle.trace.specs.Apply.{beginning as Apply·beginning, traceOk};
-ghost use Rattle.trace.specs.Listing.{recordAt};
 ghost use Rattle.trace.specs.Along.{JudgedAlone};
 ghost use Rattle.trace.specs.Steps.{stepAnswer, stepOver};
 
@@ -65,7 +63,7 @@ pub fn beginning() -> Trace
     }
 }
 
-// Whether there is that room behind a place, within so many bytes. The sum is not made, since it might not be a usize.
+// Whether there is room for one record's lines behind a place, within so many bytes. The sum is not made, since it might not be a usize.
 pub fn has_room(size: usize, at: usize) -> bool
     ensures { λ r. ⌜ r ≡ leb (at + 196) size ⌝ }
 {
@@ -80,12 +78,11 @@ pub fn has_room(size: usize, at: usize) -> bool
 pub fn state_ok(t: Trace) -> bool
     ensures { λ r. ⌜ r ≡ traceOk t ⌝ }
 {
-    let estimator = t.estimator;
-    let settings = estimator.settings;
-    if capture_channels_ok(settings.num_capture_channels) {
-        estimator.ok() & ((settings.num_sections == 1) & (settings.delay_headroom_samples == 0))
-    } else {
+    let settings = t.estimator.settings;
+    if settings.num_capture_channels == 0 {
         true
+    } else {
+        t.estimator.ok() & ((settings.num_sections == 1) & (settings.delay_headroom_samples == 0))
     }
 }
 
@@ -100,8 +97,8 @@ pub fn put_bad_frame(out: &mut [u8], at: usize, records: u32) -> usize
 // One record: its lines from a place on, and the next state; or, if it is refused, the line that says so, and the state as it was. Under
 // 20 nothing is written: the state is to blame, and no record. Without room for 196 bytes nothing happens, and `fits` is false.
 pub fn step(t: Trace, record: &[u8], out: &mut [u8], at: usize) -> Stepped
-    ensures { λ a. ⌜ a ≡ stepAnswer t (recordAt t (now («record» .entry))) (now (out .entry)) at ⌝ }
-    ensures { λ _. ⌜ now (out .exit) ≡ stepOver t (recordAt t (now («record» .entry))) (now (out .entry)) at ⌝ }
+    ensures { λ a. ⌜ a ≡ stepAnswer t (now («record» .entry)) (now (out .entry)) at ⌝ }
+    ensures { λ _. ⌜ now (out .exit) ≡ stepOver t (now («record» .entry)) (now (out .entry)) at ⌝ }
 {
     if !has_room(out.len(), at) {
         return Stepped {

@@ -4,7 +4,7 @@ use mathlib.Core.Bool.{Bool, true, false, cond, _&&_, false≢true}
 use mathlib.Core.List.{List, []}
 use Prim.Native.Nat.{ℕ, zero, suc, _+_, _-_, _≤_, _<_}
 use native.Mathlib.Omega.{arith}
-use borrow.Author.Tests.{eq-eqb, eqb-true, le-leb, le-ltb}
+use borrow.Author.Tests.{eq-eqb, ne-eqb, eqb-true, le-leb, le-ltb}
 use lib.Dec.{eqb, leb, ltb}
 use lib.ListN.{length, take, drop, length-drop}
 use lib.Seq.{take-all, drop-drop}
@@ -13,31 +13,30 @@ use Rattle.aec3_common.specs.Calls.{valuesInRange}
 use Rattle.aec3_common.specs.Counts.{oneMore}
 use Rattle.aec3_common.specs.Lists.{tab}
 use Rattle.aec3_common.specs.Refusal.{accepted}
-use Rattle.aec3_common.specs.Settings.{captureChannelsOk}
 use Rattle.aec3_common.specs.Streams.{erleOf}
 use Rattle.aec3_common.proofs.Choices.{and-left, and-right, each-of-three, passed, later-passed}
 use Rattle.encoding.specs.Text.{laid}
 use Rattle.erle_estimator.specs.declared.ErleEstimator.{ErleEstimator}
-use Rattle.erle_estimator.specs.Erle.{Update, stateOk, updateRefusal, counted, updated, afterAccepted, updateAnswer, sectioned, erleShown, streamsShown}
+use Rattle.erle_estimator.specs.Erle.{Update, stateOk, counted, updated, afterAccepted, sectioned, erleShown, streamsShown}
 use Rattle.trace_records.specs.declared.judge.Standing.{Standing}
 use Rattle.trace_records.specs.declared.records.Decoded.{Decoded}
 use Rattle.trace_records.specs.declared.records.Decoded.the-variants.{Settings, Block, Reset, Unknown}
 use Rattle.trace_records.specs.Frames.{lengthIn, framed, recordIn, frameLength}
 use Rattle.trace_records.specs.Records.{Record, settings, block, reset, unknown, settingsIn, blockIn, delayFlagIn, kindOf, settingsKind, blockKind, resetKind, decoded}
-use Rattle.trace_records.specs.Judge.{judgedWith, valueRefusal, recordRefusal}
+use Rattle.trace_records.specs.Judge.{valueRefusal, formRefusal, recordRefusal}
 use Rattle.trace_records.specs.Steps.{recordFrom}
 use Rattle.trace_records.proofs.Framing.{framed-least, framed-most, framed-room, framed-length, length-framed, no-length-framed}
-use Rattle.trace_records.proofs.Judged.{BlockOk, block-ok, block-form-passed, block-accepted-form}
+use Rattle.trace_records.proofs.Judged.{BlockOk, block-ok, form-passed, both-passed}
 use Rattle.trace_text.specs.Text.{Item, lines}
 use Rattle.trace.specs.declared.Trace.{Trace}
 use Rattle.trace.specs.declared.steps.Stepped.{Stepped}
-use Rattle.trace.specs.Apply.{channelsOf, standingOf, oneSectionNoHeadroom, traceOk, updateIn, estimatorAfter, bandAfter, blocksAfter, nextOf, rowOf, rowAt, rowsAt, rowsOf}
+use Rattle.trace.specs.Apply.{channelsOf, standingOf, oneSectionNoHeadroom, traceOk, updateIn, nextOf, channelRow, rowAt, blockRows, rowsOf}
 use Rattle.trace.specs.Listing.{recordAt, refusalAt}
 use Rattle.trace_blocks.specs.Blocks.{Walk, isBlock, further, takes, walk, isBlockFrame, blockFrameLength, subbandRow}
-use Rattle.trace.specs.Steps.{mostText, stepAnswer, stepOver}
-use Rattle.trace.proofs.Judged.{update-judged, passing}
+use Rattle.trace.specs.Steps.{mostText, stepRefusal, stepAnswer, stepOver}
+use Rattle.trace.proofs.Judged.{passing}
 use Rattle.trace_blocks.proofs.Moving.{subbandAt, moved-at}
-use Rattle.trace.proofs.Stepping.{step-accepted}
+use Rattle.trace.proofs.Stepping.{kind-accepted, step-by-kind}
 
 -- ---- walks
 
@@ -113,12 +112,12 @@ whole-is s is some =
 
 -- the block that a record is under so many channels
 abbrev blockOf : Standing → List ℕ → Record
-blockOf st r = block (length r) (blockIn (st .«num_capture_channels») r)
+blockOf st r = block (blockIn (st .«num_capture_channels») r)
 
 pub record BlockFrame (st : Standing) (s : List ℕ) : Type 0 where
   pub whole : framed s ≡ true
   pub kind : decoded st (recordIn s) ≡ blockOf st (recordIn s)
-  pub form : judgedWith st (blockOf st (recordIn s)) accepted ≡ accepted
+  pub form : formRefusal st (length (recordIn s)) (blockOf st (recordIn s)) ≡ accepted
 
 -- a record that is decoded to a block
 block-is : (st : Standing) (r : List ℕ) → isBlock (decoded st r) ≡ true → decoded st r ≡ blockOf st r
@@ -126,7 +125,7 @@ unfolding decoded isBlock
 block-is st r = go (eqb (kindOf r) settingsKind) (eqb (kindOf r) blockKind) (eqb (kindOf r) resetKind)
   where
     by : Bool → Bool → Bool → Record
-    by a b c = cond a (settings (length r) (settingsIn r)) (cond b (blockOf st r) (cond c (reset (length r) (delayFlagIn r)) unknown))
+    by a b c = cond a (settings (settingsIn r)) (cond b (blockOf st r) (cond c (reset (delayFlagIn r)) unknown))
 
     go : (a b c : Bool) → isBlock (by a b c) ≡ true → by a b c ≡ blockOf st r
     go true b c e = absurd (false≢true e)
@@ -136,14 +135,14 @@ block-is st r = go (eqb (kindOf r) settingsKind) (eqb (kindOf r) blockKind) (eqb
 
 module _ (st : Standing) (s : List ℕ) where
   abbrev formOk : Bool
-  formOk = eqb (judgedWith st (decoded st (recordIn s)) accepted) accepted
+  formOk = eqb (formRefusal st (length (recordIn s)) (decoded st (recordIn s))) accepted
 
   pub frame-of : isBlockFrame st s ≡ true → BlockFrame st s
   unfolding isBlockFrame
   frame-of all =
       let (whole, is, form) = each-of-three (framed s) (isBlock (decoded st (recordIn s))) formOk all in
       let kind = block-is st (recordIn s) is in
-      record { whole = whole; kind = kind; form = rw kind at (eqb-true (judgedWith st (decoded st (recordIn s)) accepted) accepted form) }
+      record { whole = whole; kind = kind; form = rw kind at (eqb-true (formRefusal st (length (recordIn s)) (decoded st (recordIn s))) accepted form) }
 
   pub is-frame : BlockFrame st s → isBlockFrame st s ≡ true
   unfolding isBlockFrame isBlock
@@ -176,7 +175,7 @@ module _ (st : Standing) (s : List ℕ) where
 
     -- a block, by its form
     pub frame-by :
-        {form : ℕ} → recordFrom st lent Block ≡ decoded st lent → form ≡ judgedWith st (blockOf st lent) accepted
+        {form : ℕ} → recordFrom st lent Block ≡ decoded st lent → form ≡ formRefusal st (length lent) (blockOf st lent)
         → (t : Bool) → eqb form accepted ≡ t → cond t n 0 ≡ blockFrameLength st s
     unfolding blockFrameLength isBlockFrame isBlock recordFrom
     frame-by kind form t e =
@@ -222,8 +221,8 @@ module _ (t : Trace) (s : List ℕ) (frame : BlockFrame (standingOf t) s) where
   abbrev pub blockUpdate : Update
   blockUpdate = updateIn (channelsOf e) (blockIn (channelsOf e) bytes)
 
-  pub block-form : BlockOk (standingOf t) (length bytes) (blockIn (channelsOf e) bytes)
-  block-form = block-ok (standingOf t) _ _ accepted (frame .form)
+  pub block-form : BlockOk (standingOf t) (length bytes)
+  block-form = block-ok (standingOf t) _ _ (frame .form)
 
   -- the estimator and the rows after it
   abbrev after : ErleEstimator
@@ -231,30 +230,26 @@ module _ (t : Trace) (s : List ℕ) (frame : BlockFrame (standingOf t) s) where
 
   module _ (ok : traceOk t ≡ true) where
     pub block-passing : (stateOk e ≡ true) × (e .settings .«num_sections» ≡ 1) × (e .settings .«delay_headroom_samples» ≡ 0)
-    block-passing = passing t (block-form .some) (block-form .few) ok
+    block-passing = passing t (block-form .some) ok
 
     module _
         (values : (let b = blockIn (channelsOf e) bytes in valuesInRange (b .render) (b .capture) (b .residual)) ≡ true)
         (started : e .«startup_phase_length_blocks» ≤ oneMore (e .«blocks_since_reset»))
       where
-        passes : recordRefusal (standingOf t) r ≡ accepted
+        passes : recordRefusal (standingOf t) (length bytes) r ≡ accepted
         unfolding valueRefusal
-        passes = block-form-passed (standingOf t) _ _ (frame .form) ∙ rw values
+        passes = form-passed (standingOf t) (length bytes) r (frame .form) ∙ rw values
 
-        update-passes : updateRefusal e blockUpdate ≡ accepted
-        unfolding valueRefusal
-        update-passes = update-judged (channelsOf e) bytes e refl (block-passing .0) (block-passing .2) ∙ rw values
-
-        estimator-is : estimatorAfter e r ≡ after
-        unfolding estimatorAfter updateAnswer afterAccepted counted
-        estimator-is = rw (update-passes, le-ltb (oneMore (e .«blocks_since_reset»)) (e .«startup_phase_length_blocks») started)
+        estimator-is : afterAccepted e blockUpdate ≡ after
+        unfolding afterAccepted counted
+        estimator-is = rw (le-ltb (oneMore (e .«blocks_since_reset»)) (e .«startup_phase_length_blocks») started)
 
         next-is : nextOf t r ≡ record { estimator = after; band = t .band; blocks = oneMore (t .blocks); records = oneMore (t .records) }
-        unfolding nextOf bandAfter blocksAfter
+        unfolding nextOf
         next-is = rw estimator-is
 
         rows-are : rowsOf t r ≡ tab (channelsOf e) (rowAt after (t .band) (oneMore (t .blocks)))
-        unfolding rowsOf rowsAt updated counted
+        unfolding rowsOf blockRows updated counted
         rows-are = rw next-is
 
         pub block-stepped :
@@ -268,19 +263,19 @@ module _ (t : Trace) (s : List ℕ) (frame : BlockFrame (standingOf t) s) where
               at = end;
               fits = true;
             }
-            ≡ stepAnswer t (recordAt t bytes) d at)
-            × (out ≡ stepOver t (recordAt t bytes) d at)
+            ≡ stepAnswer t bytes d at)
+            × (out ≡ stepOver t bytes d at)
         block-stepped d at room moved count number (text, place) =
             let all = (λ i. lines (tab (channelsOf e) (rowAt (moved i) (t .band) (count i)))) ∙ ap lines (sym rows-are) in
-            rw (frame .kind)
-            (step-accepted t r d at room ok passes
+            step-by-kind t bytes d at room ok r (sym (frame .kind))
+            (kind-accepted t (length bytes) r d at passes
             ((λ i. record { estimator = moved i; band = t .band; blocks = count i; records = number i }) ∙ sym next-is)
             (text ∙ ap (laid d at) all, place ∙ ap (λ l. at + length l) all)
             refl)
 
 -- ---- number 20 of two states with the same settings
 
-module _ (t u : Trace) (same : u .estimator .settings ≡ t .estimator .settings) (some : 1 ≤ channelsOf (t .estimator)) (few : channelsOf (t .estimator) ≤ 4) where
+module _ (t u : Trace) (same : u .estimator .settings ≡ t .estimator .settings) (some : 1 ≤ channelsOf (t .estimator)) where
   as-many : channelsOf (u .estimator) ≡ channelsOf (t .estimator)
   as-many = ap (λ (g : ErleSettings). g .«num_capture_channels») same
 
@@ -289,23 +284,21 @@ module _ (t u : Trace) (same : u .estimator .settings ≡ t .estimator .settings
   unfolding traceOk
   same-but-records before ok =
       let g = t .estimator .settings in
-      let (_, section, flat) = passing t some few before in
-      let standing : captureChannelsOk (channelsOf (u .estimator)) ≡ true =
-      ap (λ (x : ErleSettings). captureChannelsOk (x .«num_capture_channels»)) same ∙ rw (le-leb 1 (channelsOf (t .estimator)) some, le-leb (channelsOf (t .estimator)) 4 few) in
+      let (_, section, flat) = passing t some before in
       let given : oneSectionNoHeadroom (u .estimator .settings) ≡ true =
       ap oneSectionNoHeadroom same ∙ simp (eq-eqb (g .«num_sections») 1 section, eq-eqb (g .«delay_headroom_samples») 0 flat) in
-      rw (standing, ok, given)
+      rw (ne-eqb (channelsOf (u .estimator)) 0 (λ z. omega (arith, as-many)), ok, given)
 
   pub records-pass : traceOk u ≡ true → stateOk (u .estimator) ≡ true
-  records-pass after = passing u (omega (arith, as-many)) (omega (arith, as-many)) after .0
+  records-pass after = passing u (omega (arith, as-many)) after .0
 
 -- the walk goes on by it
 pub walk-on :
     {s : List ℕ} {from : Walk} {t : Trace} {used : ℕ} {d : List ℕ} {at : ℕ} {n : ℕ} {next : Trace} {out : List ℕ} {end : ℕ}
     → OnItsWay s from (record { state = t; used = used; out = d; at = at }) → BlockFrame (standingOf t) (drop used s) → n ≡ lengthIn (drop used s)
     → t .estimator .«startup_phase_length_blocks» ≤ oneMore (t .estimator .«blocks_since_reset»)
-    → (record { state = next; refused = accepted; at = end; fits = true } ≡ stepAnswer t (recordAt t (recordIn (drop used s))) d at)
-    × (out ≡ stepOver t (recordAt t (recordIn (drop used s))) d at)
+    → (record { state = next; refused = accepted; at = end; fits = true } ≡ stepAnswer t (recordIn (drop used s)) d at)
+    × (out ≡ stepOver t (recordIn (drop used s)) d at)
     → OnItsWay s from (record { state = next; used = used + 4 + n; out = out; at = end })
 unfolding further takes isBlock
 walk-on {s} {used = used} {n = n} way frame long started (answer, over) =
@@ -331,12 +324,12 @@ module _ (s : List ℕ) (w : Walk) (taken : takes s w ≡ true) where
   abbrev left : List ℕ
   left = drop (w .used) s
 
-  abbrev next-record : Record
-  next-record = recordAt held (recordIn left)
+  abbrev bytes-next : List ℕ
+  bytes-next = recordIn left
 
   each-test :
-      (framed left ≡ true) × (isBlock next-record ≡ true) × (stepAnswer held next-record (w .out) (w .at) .fits ≡ true)
-      × (eqb (stepAnswer held next-record (w .out) (w .at) .refused) accepted ≡ true)
+      (framed left ≡ true) × (isBlock (recordAt held bytes-next) ≡ true) × (stepAnswer held bytes-next (w .out) (w .at) .fits ≡ true)
+      × (eqb (stepAnswer held bytes-next (w .out) (w .at) .refused) accepted ≡ true)
       × (leb (held .estimator .«startup_phase_length_blocks») (oneMore (held .estimator .«blocks_since_reset»)) ≡ true)
   unfolding takes
   each-test = each-of-five _ _ _ _ _ taken
@@ -349,43 +342,41 @@ module _ (s : List ℕ) (w : Walk) (taken : takes s w ≡ true) where
       go true e = refl
       go false e = rw e at (each-test .2)
 
-  accepted-step : refusalAt held next-record ≡ accepted
+  accepted-step : stepRefusal held bytes-next ≡ accepted
   unfolding stepAnswer
-  accepted-step = rw taken-room at (eqb-true (stepAnswer held next-record (w .out) (w .at) .refused) accepted (each-test .3))
+  accepted-step = rw taken-room at (eqb-true (stepAnswer held bytes-next (w .out) (w .at) .refused) accepted (each-test .3))
 
   pub taken-state : traceOk held ≡ true
-  unfolding refusalAt
-  taken-state = passed (traceOk held) 19 (recordRefusal (standingOf held) next-record) accepted-step
+  unfolding stepRefusal
+  taken-state = passed (traceOk held) 19 (refusalAt held bytes-next) accepted-step
 
-  own-accepted : recordRefusal (standingOf held) next-record ≡ accepted
-  unfolding refusalAt
-  own-accepted = later-passed (traceOk held) 19 (recordRefusal (standingOf held) next-record) accepted-step
+  kind : recordAt held bytes-next ≡ blockOf (standingOf held) bytes-next
+  kind = block-is (standingOf held) bytes-next (each-test .1)
 
-  kind : next-record ≡ blockOf (standingOf held) (recordIn left)
-  kind = block-is (standingOf held) (recordIn left) (each-test .1)
-
-  block-accepted : recordRefusal (standingOf held) (blockOf (standingOf held) (recordIn left)) ≡ accepted
-  block-accepted = sym (ap (recordRefusal (standingOf held)) kind) ∙ own-accepted
+  form-and-values : (formRefusal (standingOf held) (length bytes-next) (blockOf (standingOf held) bytes-next) ≡ accepted) × (valueRefusal (blockOf (standingOf held) bytes-next) ≡ accepted)
+  unfolding stepRefusal
+  form-and-values =
+      both-passed (standingOf held) (length bytes-next) (blockOf (standingOf held) bytes-next)
+      (rw kind at (later-passed (traceOk held) 19 (refusalAt held bytes-next) accepted-step))
 
   pub taken-frame : BlockFrame (standingOf held) left
-  taken-frame = record { whole = each-test .0; kind = kind; form = block-accepted-form (standingOf held) _ _ block-accepted }
+  taken-frame = record { whole = each-test .0; kind = kind; form = form-and-values .0 }
 
   pub taken-started : leb (held .estimator .«startup_phase_length_blocks») (oneMore (held .estimator .«blocks_since_reset»)) ≡ true
   taken-started = each-test .4
 
   pub taken-values :
-      let b = blockIn (channelsOf (held .estimator)) (recordIn left) in
+      let b = blockIn (channelsOf (held .estimator)) bytes-next in
       valuesInRange (b .render) (b .capture) (b .residual) ≡ true
   unfolding valueRefusal
   taken-values =
-      let b = blockIn (channelsOf (held .estimator)) (recordIn left) in
-      passed (valuesInRange (b .render) (b .capture) (b .residual)) 5 0
-      (sym (block-form-passed (standingOf held) _ _ (taken-frame .form)) ∙ block-accepted)
+      let b = blockIn (channelsOf (held .estimator)) bytes-next in
+      passed (valuesInRange (b .render) (b .capture) (b .residual)) 5 0 (form-and-values .1)
 
 -- a channel's row after the block, of its subband record alone
 pub row-is :
     (s : ErleEstimator) (u : Update) → s .settings .«num_sections» ≡ 1 → s .settings .«num_capture_channels» ≤ 4
     → (ch : ℕ) → ch < s .settings .«num_capture_channels» → (band number : ℕ)
     → subbandRow (s .settings .«onset_detection») (subbandAt s u ch) band number ch ≡ rowAt (updated s u) band number ch
-unfolding subbandRow rowAt rowOf streamsShown erleShown sectioned erleOf updated
+unfolding subbandRow rowAt channelRow streamsShown erleShown sectioned erleOf updated
 row-is s u section few ch h band number = sym (rw (section, moved-at s u few ch h))

@@ -12,7 +12,7 @@ use Rattle.subband_erle_estimator.specs.declared.channel.SubbandChannel.{Subban
 use Rattle.trace_records.specs.Frames.{lengthIn, framed, recordIn}
 use Rattle.trace_records.specs.declared.judge.Standing.{Standing}
 use Rattle.trace_records.specs.Records.{Record, settings, block, reset, unknown, decoded}
-use Rattle.trace_records.specs.Judge.{judgedWith}
+use Rattle.trace_records.specs.Judge.{formRefusal}
 use Rattle.trace_text.specs.Text.{Item, row}
 use Rattle.trace.specs.declared.Trace.{Trace}
 use Rattle.trace_blocks.specs.declared.SteppedBlocks.{SteppedBlocks}
@@ -29,9 +29,9 @@ pub record Walk : Type 0 where
   pub at : ℕ
 
 unfoldable pub isBlock : Record → Bool
-isBlock (settings l b) = false
-isBlock (block l b) = true
-isBlock (reset l delayFlag) = false
+isBlock (settings s) = false
+isBlock (block b) = true
+isBlock (reset delayFlag) = false
 isBlock unknown = false
 
 module _ (s : List ℕ) where
@@ -39,13 +39,9 @@ module _ (s : List ℕ) where
   abbrev pub left : Walk → List ℕ
   left w = drop (w .used) s
 
-  -- the record that they begin with
-  abbrev pub next : Walk → Record
-  next w = recordAt (w .state) (recordIn (left w))
-
-  -- what a step with it is answered
+  -- what a step with the record that they begin with is answered
   abbrev pub stepped : Walk → Stepped
-  stepped w = stepAnswer (w .state) (next w) (w .out) (w .at)
+  stepped w = stepAnswer (w .state) (recordIn (left w)) (w .out) (w .at)
 
   -- where things stand after that step
   unfoldable pub further : Walk → Walk
@@ -53,7 +49,7 @@ module _ (s : List ℕ) where
       record {
         state = stepped w .state;
         used = w .used + (4 + lengthIn (left w));
-        out = stepOver (w .state) (next w) (w .out) (w .at);
+        out = stepOver (w .state) (recordIn (left w)) (w .out) (w .at);
         at = stepped w .at;
       }
 
@@ -63,7 +59,7 @@ module _ (s : List ℕ) where
   takes w =
       let e = w .state .estimator in
       framed (left w)
-      && isBlock (next w)
+      && isBlock (recordAt (w .state) (recordIn (left w)))
       && stepped w .fits
       && eqb (stepped w .refused) accepted
       && leb (e .«startup_phase_length_blocks») (oneMore (e .«blocks_since_reset»))
@@ -90,7 +86,7 @@ blocksOver t s d at = walked t s d at .out
 unfoldable pub isBlockFrame : Standing → List ℕ → Bool
 isBlockFrame st s =
     let r = decoded st (recordIn s) in
-    framed s && isBlock r && eqb (judgedWith st r accepted) accepted
+    framed s && isBlock r && eqb (formRefusal st (length (recordIn s)) r) accepted
 
 -- its L then, else 0
 unfoldable pub blockFrameLength : Standing → List ℕ → ℕ

@@ -21,7 +21,7 @@ use trace_records::block_in;
 use trace_records::decode;
 use trace_records::frame_length;
 use trace_records::frames::LENGTH_SIZE;
-use trace_records::judge::block_form;
+use trace_records::judge::block_form_refusal;
 use trace_text::put_row;
 ghost use mathlib.Core.Path.{_≡_};
 ghost use Prim.Native.Nat.{_≤_};
@@ -50,7 +50,7 @@ fn block_frame_length(standing: Standing, s: &[u8]) -> usize
     let decoded = decode(record);
     match decoded {
         Decoded::Block => {
-            if block_form(standing, record) == ACCEPTED {
+            if block_form_refusal(standing, record) == ACCEPTED {
                 length
             } else {
                 0

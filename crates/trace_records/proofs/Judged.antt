@@ -1,93 +1,65 @@
 -- What judging a record tells.
 use mathlib.Core.Path.{_≡_, refl}
-use mathlib.Core.Bool.{Bool, true, false, not, _&&_}
+use mathlib.Core.Bool.{Bool, true, false}
 use Prim.Native.Nat.{ℕ, suc, _≤_}
 use native.Mathlib.Omega.{arith}
-use borrow.Author.Tests.{eqb-true}
+use borrow.Author.Tests.{eqb-true, eq-eqb, ne-eqb}
 use lib.Dec.{eqb}
-use Rattle.aec3_common.specs.Lists.{every}
-use Rattle.aec3_common.specs.Refusal.{accepted}
+use Rattle.aec3_common.specs.Refusal.{unless, firstOf, accepted, badRecordLength, badFlagOrBand}
+use Rattle.aec3_common.proofs.Choices.{passed, later-passed, first-of-passed}
 use Rattle.aec3_common.proofs.Ranges.{from-lo, to-hi}
 use Rattle.trace_records.specs.declared.judge.Standing.{Standing}
-use Rattle.trace_records.specs.declared.records.SettingsRecord.{SettingsRecord}
-use Rattle.trace_records.specs.Records.{BlockRecord, settings, block, reset, unknown}
-use Rattle.trace_records.specs.Judge.{stands, settingsLength, blockLength, resetLength, flagOk, bandOk, inForm, judgedWith, valueRefusal, recordRefusal}
+use Rattle.trace_records.specs.Records.{BlockRecord, Record, settings, block, reset, unknown}
+use Rattle.trace_records.specs.Judge.{stands, placeRefusal, blockLength, lengthAsked, flagsOk, valueRefusal, formRefusal, recordRefusal}
 
 -- ---- form, and then values
 
-form-first : (a b c : Bool) (n values : ℕ) → (inForm a n b c accepted ≡ accepted → ⊥) → inForm a n b c values ≡ inForm a n b c accepted
-form-first true true true n values some = absurd (some refl)
-form-first true true false n values some = refl
-form-first true false c n values some = refl
-form-first false b c n values some = refl
+module _ (st : Standing) (l : ℕ) (r : Record) where
+  pub form-refused : (formRefusal st l r ≡ accepted → ⊥) → recordRefusal st l r ≡ formRefusal st l r
+  unfolding recordRefusal
+  form-refused some = rw (ne-eqb (formRefusal st l r) accepted some)
 
-values-then : (a b c : Bool) (n values : ℕ) → inForm a (suc n) b c accepted ≡ accepted → inForm a (suc n) b c values ≡ values
-values-then true true true n values e = refl
-values-then true true false n values e = absurd (omega arith)
-values-then true false c n values e = absurd (omega arith)
-values-then false b c n values e = absurd (omega arith)
+  pub form-passed : formRefusal st l r ≡ accepted → recordRefusal st l r ≡ valueRefusal r
+  unfolding recordRefusal
+  form-passed none = rw (eq-eqb (formRefusal st l r) accepted none)
 
-three-passed :
-    (a b c : Bool) (n values : ℕ) → inForm a (suc n) b c values ≡ accepted
-    → (a ≡ true) × (b ≡ true) × (c ≡ true) × (values ≡ accepted)
-three-passed true true true n values e = (refl, refl, refl, e)
-three-passed true true false n values e = absurd (omega arith)
-three-passed true false c n values e = absurd (omega arith)
-three-passed false b c n values e = absurd (omega arith)
+  -- an accepted record is in form, and its values pass
+  pub both-passed : recordRefusal st l r ≡ accepted → (formRefusal st l r ≡ accepted) × (valueRefusal r ≡ accepted)
+  unfolding recordRefusal
+  both-passed e = first-of-passed (formRefusal st l r) (valueRefusal r) e
 
--- a block in form: settings stand, and it has the length and the flags of their channels
-pub record BlockOk (st : Standing) (l : ℕ) (b : BlockRecord) : Type 0 where
+  -- a record in form is in its place, and has its length and its flags
+  pub in-form : formRefusal st l r ≡ accepted → (placeRefusal st r ≡ accepted) × (l ≡ lengthAsked st r) × (flagsOk r ≡ true)
+  unfolding formRefusal
+  in-form e =
+      let flags = unless (flagsOk r) badFlagOrBand accepted in
+      let (place, rest) = first-of-passed (placeRefusal st r) (unless (eqb l (lengthAsked st r)) badRecordLength flags) e in (
+        place,
+        eqb-true l (lengthAsked st r) (passed (eqb l (lengthAsked st r)) 11 flags rest),
+        passed (flagsOk r) 12 accepted (later-passed (eqb l (lengthAsked st r)) 11 flags rest),
+      )
+
+-- ---- a block in form
+
+-- settings stand, and it has the length of their channels
+pub record BlockOk (st : Standing) (l : ℕ) : Type 0 where
   pub some : 1 ≤ st .«num_capture_channels»
   pub few : st .«num_capture_channels» ≤ 4
   pub long : l ≡ blockLength (st .«num_capture_channels»)
-  pub flags : every flagOk (b .flags) ≡ true
 
-module _ (st : Standing) (l : ℕ) (b : BlockRecord) where
-  abbrev n : ℕ
-  n = st .«num_capture_channels»
-
-  pub block-form-refused : (judgedWith st (block l b) accepted ≡ accepted → ⊥) → recordRefusal st (block l b) ≡ judgedWith st (block l b) accepted
-  unfolding recordRefusal judgedWith
-  block-form-refused = form-first (stands st) (eqb l (blockLength n)) (every flagOk (b .flags)) 22 (valueRefusal (block l b))
-
-  pub block-form-passed : judgedWith st (block l b) accepted ≡ accepted → recordRefusal st (block l b) ≡ valueRefusal (block l b)
-  unfolding recordRefusal judgedWith
-  block-form-passed = values-then (stands st) (eqb l (blockLength n)) (every flagOk (b .flags)) 21 (valueRefusal (block l b))
-
-  -- an accepted block is in form
-  pub block-accepted-form : recordRefusal st (block l b) ≡ accepted → judgedWith st (block l b) accepted ≡ accepted
-  unfolding recordRefusal judgedWith
-  block-accepted-form e =
-      let (standing, long, flags, _) = three-passed (stands st) (eqb l (blockLength n)) (every flagOk (b .flags)) 21 (valueRefusal (block l b)) e in
-      simp (standing, long, flags)
-
-  pub block-stands : recordRefusal st (block l b) ≡ accepted → stands st ≡ true
-  unfolding recordRefusal judgedWith
-  block-stands e = three-passed (stands st) (eqb l (blockLength n)) (every flagOk (b .flags)) 21 (valueRefusal (block l b)) e .0
-
-  pub block-ok : (values : ℕ) → judgedWith st (block l b) values ≡ accepted → BlockOk st l b
-  unfolding judgedWith
-  block-ok values e =
-      let (standing, long, flags, _) = three-passed (stands st) (eqb l (blockLength n)) (every flagOk (b .flags)) 21 values e in
-      record {
-        some = from-lo 1 4 n standing;
-        few = to-hi 1 4 n standing;
-        long = eqb-true l (blockLength n) long;
-        flags = flags;
-      }
-
--- accepted settings have values that pass
-pub settings-values : (st : Standing) (l : ℕ) (s : SettingsRecord) → recordRefusal st (settings l s) ≡ accepted → valueRefusal (settings l s) ≡ accepted
-unfolding recordRefusal judgedWith
-settings-values st l s e =
-    three-passed (not (stands st)) (eqb l settingsLength) (flagOk (s .«onset_flag») && bandOk (s .band)) 22 (valueRefusal (settings l s)) e .3
+pub block-ok : (st : Standing) (l : ℕ) (b : BlockRecord) → formRefusal st l (block b) ≡ accepted → BlockOk st l
+unfolding placeRefusal lengthAsked
+block-ok st l b e =
+    let (place, long, _) = in-form st l (block b) e in
+    let standing = passed (stands st) 21 accepted place in
+    record { some = from-lo 1 4 (st .«num_capture_channels») standing; few = to-hi 1 4 (st .«num_capture_channels») standing; long = long }
 
 -- an accepted reset has settings before it
-pub reset-stands : (st : Standing) (l flag : ℕ) → recordRefusal st (reset l flag) ≡ accepted → stands st ≡ true
-unfolding recordRefusal judgedWith
-reset-stands st l flag e = three-passed (stands st) (eqb l resetLength) (flagOk flag) 21 (valueRefusal (reset l flag)) e .0
+pub reset-stands : (st : Standing) (l flag : ℕ) → recordRefusal st l (reset flag) ≡ accepted → stands st ≡ true
+unfolding placeRefusal
+reset-stands st l flag e = passed (stands st) 21 accepted (in-form st l (reset flag) (both-passed st l (reset flag) e .0) .0)
 
 -- and no unknown record is accepted
-pub unknown-refused : (st : Standing) → recordRefusal st unknown ≡ accepted → ⊥
-unfolding recordRefusal judgedWith
-unknown-refused st e = omega arith
+pub unknown-refused : (st : Standing) (l : ℕ) → recordRefusal st l unknown ≡ accepted → ⊥
+unfolding placeRefusal
+unknown-refused st l e = omega (arith, in-form st l unknown (both-passed st l unknown e .0) .0)

@@ -1,10 +1,9 @@
--- What a record says: its bytes, decoded once. A record is counted from its kind on, without its L: two bytes of kind, and the body.
+-- What a record says: its bytes, decoded once. They are two bytes of kind and the body; places are counted from the kind on.
 use Prim.Native.Nat.{ℕ, _+_, _*_, _/_, _%_}
 use mathlib.Core.Bool.{Bool, true, cond}
 use mathlib.Core.List.{List}
 use lib.Dec.{eqb}
 use lib.Ieee.{Float, binary32, ofBits}
-use lib.ListN.{length}
 use Rattle.aec3_common.specs.declared.settings.ErleSettings.{ErleSettings}
 use Rattle.aec3_common.specs.Lists.{tab}
 use Rattle.encoding.specs.Bytes.{byteAt, halfAt, wordAt}
@@ -18,11 +17,11 @@ pub record BlockRecord : Type 0 where
   pub capture : List Float
   pub residual : List Float
 
--- A record by its kind, each with its L. Flags are the bytes that stand there; which ones are bad is for the judging to say.
+-- A record by its kind. Flags are the bytes that stand there; which ones are bad is for the judging to say.
 pub data Record : Type 0 where
-  settings : (length : ℕ) → SettingsRecord → Record
-  block : (length : ℕ) → BlockRecord → Record
-  reset : (length delayFlag : ℕ) → Record
+  settings : SettingsRecord → Record
+  block : BlockRecord → Record
+  reset : (delayFlag : ℕ) → Record
   unknown : Record
 
 -- ---- single numbers
@@ -128,7 +127,7 @@ resetKind = 0x0003
 -- the record that bytes hold: a block has the channels of the settings that stand
 unfoldable pub decoded : Standing → List ℕ → Record
 decoded st r =
-    cond (eqb (kindOf r) settingsKind) (settings (length r) (settingsIn r))
-    (cond (eqb (kindOf r) blockKind) (block (length r) (blockIn (st .«num_capture_channels») r))
-    (cond (eqb (kindOf r) resetKind) (reset (length r) (delayFlagIn r))
+    cond (eqb (kindOf r) settingsKind) (settings (settingsIn r))
+    (cond (eqb (kindOf r) blockKind) (block (blockIn (st .«num_capture_channels») r))
+    (cond (eqb (kindOf r) resetKind) (reset (delayFlagIn r))
     unknown))

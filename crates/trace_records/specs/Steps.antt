@@ -1,4 +1,4 @@
--- What inner functions of the code promise; no part of the definition of a listing.
+-- What functions of the code promise besides; no part of the definition of a listing.
 use Prim.Native.Nat.{ℕ, _+_, _-_, _*_}
 use mathlib.Core.Bool.{Bool, false, cond, _&&_}
 use mathlib.Core.List.{List, [], map}
@@ -19,9 +19,9 @@ use Rattle.trace_records.specs.Judge.{blockLength}
 
 -- the record that it stands for, beside the bytes: there is no room in it for a block's spectra
 unfoldable pub recordFrom : Standing → List ℕ → Decoded → Record
-recordFrom st r (Settings s) = settings (length r) s
-recordFrom st r Block = block (length r) (blockIn (st .«num_capture_channels») r)
-recordFrom st r (Reset delayFlag) = reset (length r) delayFlag
+recordFrom st r (Settings s) = settings s
+recordFrom st r Block = block (blockIn (st .«num_capture_channels») r)
+recordFrom st r (Reset delayFlag) = reset delayFlag
 recordFrom st r Unknown = unknown
 
 -- ---- a block, in tables that have room for four channels

@@ -20,13 +20,11 @@ use aec3_common::settings::capture_channels_ok;
 use aec3_common::settings::limits_and_channels_refusal;
 use encoding::byte_at;
 ghost use mathlib.Core.Path.{_≡_};
-ghost use mathlib.Core.Bool.{_&&_};
 ghost use Prim.Native.Nat.{_≤_};
 ghost use lib.ListN.{length};
 ghost use Rattle.aec3_common.specs.Lists.{every};
-ghost use Rattle.aec3_common.specs.Refusal.{accepted};
 ghost use Rattle.trace_records.specs.Records.{settings as Record·settings, block as Record·block, reset as Record·reset, flagsIn, blockIn, decoded};
-ghost use Rattle.trace_records.specs.Judge.{nothingStands, standingAfter, blockLength, flagOk, bandOk, judgedWith, valueRefusal, recordRefusal};
+ghost use Rattle.trace_records.specs.Judge.{nothingStands, standingAfter, blockLength, flagOk, flagsOk, formRefusal, valueRefusal, recordRefusal, refusalIn};
 
 // What of the trace so far a record is judged by: the capture channels of the settings that stand, or 0 before them.
 pub struct Standing {
@@ -59,21 +57,21 @@ impl Standing {
     }
 }
 
-// Number 13 of settings: the onset flag and the printed band.
-fn flag_and_band_ok(settings: SettingsRecord) -> bool
-    ensures { λ r. ⌜ r ≡ flagOk (settings .«onset_flag») && bandOk (settings .band) ⌝ }
-{
-    (settings.onset_flag <= 1) & (settings.band <= FFT_LENGTH_BY_2)
-}
-
 fn flag_ok(flag: u32) -> bool
     ensures { λ r. ⌜ r ≡ flagOk flag ⌝ }
 {
     flag <= 1
 }
 
+// Number 13 of settings: the onset flag and the printed band.
+fn flag_and_band_ok(settings: SettingsRecord) -> bool
+    ensures { λ r. ⌜ r ≡ flagsOk (Record·settings settings) ⌝ }
+{
+    flag_ok(settings.onset_flag) & (settings.band <= FFT_LENGTH_BY_2)
+}
+
 // Number 13 of a block: the converged flags.
-fn flags_ok(record: &[u8], num_capture_channels: usize) -> bool
+fn converged_flags_ok(record: &[u8], num_capture_channels: usize) -> bool
     requires { ⌜ «num_capture_channels» ≤ 4 ⌝ }
     ensures { λ r. ⌜ r ≡ every flagOk (flagsIn «num_capture_channels» (now («record» .entry))) ⌝ }
 {
@@ -86,7 +84,7 @@ fn flags_ok(record: &[u8], num_capture_channels: usize) -> bool
 
 // Of a settings record with such an L: the first of 23, 12, 13, 1 and 2, or 0.
 pub fn settings_refusal(standing: Standing, length: usize, settings: SettingsRecord) -> u32
-    ensures { λ r. ⌜ r ≡ recordRefusal standing (Record·settings length settings) ⌝ }
+    ensures { λ r. ⌜ r ≡ recordRefusal standing length (Record·settings settings) ⌝ }
 {
     if capture_channels_ok(standing.num_capture_channels) {
         SECOND_SETTINGS
@@ -105,14 +103,14 @@ pub fn settings_refusal(standing: Standing, length: usize, settings: SettingsRec
 }
 
 // Of a block, whose values are not looked at: the first of 22, 12 and 13, or 0.
-pub fn block_form(standing: Standing, record: &[u8]) -> u32
-    ensures { λ r. ⌜ r ≡ judgedWith standing (Record·block (length (now («record» .entry))) (blockIn (standing .«num_capture_channels») (now («record» .entry)))) accepted ⌝ }
+pub fn block_form_refusal(standing: Standing, record: &[u8]) -> u32
+    ensures { λ r. ⌜ r ≡ formRefusal standing (length (now («record» .entry))) (Record·block (blockIn (standing .«num_capture_channels») (now («record» .entry)))) ⌝ }
 {
     if !capture_channels_ok(standing.num_capture_channels) {
         NO_SETTINGS
     } else if record.len() != block_length(standing.num_capture_channels) {
         BAD_RECORD_LENGTH
-    } else if !flags_ok(record, standing.num_capture_channels) {
+    } else if !converged_flags_ok(record, standing.num_capture_channels) {
         BAD_FLAG_OR_BAND
     } else {
         ACCEPTED
@@ -121,7 +119,7 @@ pub fn block_form(standing: Standing, record: &[u8]) -> u32
 
 // Of a reset with such an L: the first of 22, 12 and 13, or 0.
 pub fn reset_refusal(standing: Standing, length: usize, delay_flag: u32) -> u32
-    ensures { λ r. ⌜ r ≡ recordRefusal standing (Record·reset length «delay_flag») ⌝ }
+    ensures { λ r. ⌜ r ≡ recordRefusal standing length (Record·reset «delay_flag») ⌝ }
 {
     if !capture_channels_ok(standing.num_capture_channels) {
         NO_SETTINGS
@@ -134,11 +132,11 @@ pub fn reset_refusal(standing: Standing, length: usize, delay_flag: u32) -> u32
     }
 }
 
-// Of a block's values: 6, or 0.
-fn block_values(num_capture_channels: usize, record: &[u8]) -> u32
+// Of the values of a block in form: 6, or 0.
+fn block_values_refusal(num_capture_channels: usize, record: &[u8]) -> u32
     requires { ⌜ «num_capture_channels» ≤ 4 ⌝ }
     requires { ⌜ length (now «record») ≡ blockLength «num_capture_channels» ⌝ }
-    ensures { λ r. ⌜ r ≡ valueRefusal (Record·block (length (now («record» .entry))) (blockIn «num_capture_channels» (now («record» .entry)))) ⌝ }
+    ensures { λ r. ⌜ r ≡ valueRefusal (Record·block (blockIn «num_capture_channels» (now («record» .entry)))) ⌝ }
 {
     let block = block_in(record, num_capture_channels);
     let x2 = block.x2;
@@ -154,19 +152,19 @@ fn block_values(num_capture_channels: usize, record: &[u8]) -> u32
 
 // Of a block: the first of 22, 12, 13 and 6, or 0.
 fn block_refusal(standing: Standing, record: &[u8]) -> u32
-    ensures { λ r. ⌜ r ≡ recordRefusal standing (Record·block (length (now («record» .entry))) (blockIn (standing .«num_capture_channels») (now («record» .entry)))) ⌝ }
+    ensures { λ r. ⌜ r ≡ recordRefusal standing (length (now («record» .entry))) (Record·block (blockIn (standing .«num_capture_channels») (now («record» .entry)))) ⌝ }
 {
-    let form = block_form(standing, record);
+    let form = block_form_refusal(standing, record);
     if form != ACCEPTED {
         form
     } else {
-        block_values(standing.num_capture_channels, record)
+        block_values_refusal(standing.num_capture_channels, record)
     }
 }
 
-// The first of all numbers under which a whole record is turned away, or 0.
+// Of any record: the first of all numbers under which it is turned away, or 0.
 pub fn record_refusal(standing: Standing, record: &[u8]) -> u32
-    ensures { λ r. ⌜ r ≡ recordRefusal standing (decoded standing (now («record» .entry))) ⌝ }
+    ensures { λ r. ⌜ r ≡ refusalIn standing (now («record» .entry)) ⌝ }
 {
     let decoded = decode(record);
     match decoded {

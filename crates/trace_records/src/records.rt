@@ -1,4 +1,4 @@
-// What the bytes of a record say. It is counted from its kind on, without its L.
+// What the bytes of a record say. Places are counted from its kind on.
 use aec3_common::ErleSettings;
 use aec3_common::settings::MAX_CAPTURE_CHANNELS;
 use encoding::byte_at;

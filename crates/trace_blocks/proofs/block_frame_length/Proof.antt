@@ -21,12 +21,12 @@ whole c = whole-is _ (c .before .frame-length .ensures) (c .if1 .left)
 block : tie.Need-returns-2
 block c =
     let kind = rw (c .before .before .enum-told .given .1) at (c .before .before .before .before .decode .ensures (c .before .before .before .before .before .before .before .before .before .args .standing)) in
-    frame-by _ _ (whole (c .before .before .before .before .before .before)) kind (c .before .block-form .ensures) true (eq-eqb _ _ (c .if2 .taken))
+    frame-by _ _ (whole (c .before .before .before .before .before .before)) kind (c .before .block-form-refusal .ensures) true (eq-eqb _ _ (c .if2 .taken))
 
 bad-form : tie.Need-returns-3
 bad-form c =
     let kind = rw (c .before .before .enum-told .given .1) at (c .before .before .before .before .decode .ensures (c .before .before .before .before .before .before .before .before .before .args .standing)) in
-    frame-by _ _ (whole (c .before .before .before .before .before .before)) kind (c .before .block-form .ensures) false (ne-eqb _ _ (c .if2 .left))
+    frame-by _ _ (whole (c .before .before .before .before .before .before)) kind (c .before .block-form-refusal .ensures) false (ne-eqb _ _ (c .if2 .left))
 
 settings : tie.Need-returns-4
 unfolding recordFrom isBlock

@@ -105,7 +105,7 @@ long c = length-is c ∙ frame-long _ _ (frame c)
 room : (c : Turn) → leb (c .before .before .before .before .before .before .loop .at + 196) (length (c .before .before .before .before .before .before .loop .out)) ≡ true
 room c = sym (c .before .has-room .ensures) ∙ tests c .3
 
-form : (c : Turn) → BlockOk (standingOf (before c)) (length (recordIn (rest c))) (blockIn (channelsOf (before c .estimator)) (recordIn (rest c)))
+form : (c : Turn) → BlockOk (standingOf (before c)) (length (recordIn (rest c)))
 form c = block-form (before c) (rest c) (frame c)
 
 -- number 20 lets the state pass, and so the estimator, which has one section
@@ -282,8 +282,8 @@ still-passes c =
     let u = update turn in
     let m = c .before .loop2 .inv .0 in
     let over : channelsOf (before turn .estimator) ≤ c .before .loop2 .ch = omega (arith, last c) in (
-      λ all. same-but-records (before turn) (after-state c) (same-settings c) (form turn .some) (few turn) (state-passes turn) (ap stateOk (moved c) ∙ moving-ok s u (few turn) m over (section turn) (passes turn) all),
-      λ ok. moving-told s u (few turn) m over (section turn) (sym (ap stateOk (moved c)) ∙ records-pass (before turn) (after-state c) (same-settings c) (form turn .some) (few turn) ok),
+      λ all. same-but-records (before turn) (after-state c) (same-settings c) (form turn .some) (state-passes turn) (ap stateOk (moved c) ∙ moving-ok s u (few turn) m over (section turn) (passes turn) all),
+      λ ok. moving-told s u (few turn) m over (section turn) (sym (ap stateOk (moved c)) ∙ records-pass (before turn) (after-state c) (same-settings c) (form turn .some) ok),
     )
 
 loop-again : tie.Need-loop-again Inv-loop2 μ-loop2 Inv-loop μ-loop

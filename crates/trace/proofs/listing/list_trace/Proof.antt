@@ -58,7 +58,7 @@ turned : (c : tie.After-t Inv-loop μ-loop) → Turned (c .before .before .befor
 turned c = turned-rest (c .before .before .before .before .before .before .before .before .before .before .before .before .before .before .before .before .before .before .before .before .args .input .now) (c .before .before .before .before .before .before .before .before .before .before .before .before .loop .from) (c .before .before .take-turn .ensures)
 
 left : (c : tie.After-t Inv-loop μ-loop) → Left (c .before .before .before .before .before .before .before .before .before .before .before .before .loop .t) (drop (c .before .before .before .before .before .before .before .before .before .before .before .before .loop .from) (c .before .before .before .before .before .before .before .before .before .before .before .before .before .before .before .before .before .before .before .before .args .input .now)) (c .before .before .take-turn .last .1 .1 .0) (c .before .before .take-turn .result)
-left c = turn-left (some (c .before .before .before .before .before .before .before .before .before .before .before)) (turned c)
+left c = turn-left (c .before .before .before .before .before .before .before .before .before .before .before .before .loop .inv .0 .sound) (some (c .before .before .before .before .before .before .before .before .before .before .before)) (turned c)
 
 -- no byte is read twice, nor one behind the last
 within : (c : tie.After-t Inv-loop μ-loop) → c .before .before .before .before .before .before .before .before .before .before .before .before .loop .from + c .before .before .take-turn .result .used ≤ length (c .before .before .before .before .before .before .before .before .before .before .before .before .before .before .before .before .before .before .before .before .args .input .now)

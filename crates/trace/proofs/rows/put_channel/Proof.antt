@@ -1,11 +1,11 @@
 -- The three figures are those of the streams that are shown.
 use borrow.Author.Needs.{needs}
-use Rattle.trace.specs.Apply.{rowOf}
+use Rattle.trace.specs.Apply.{channelRow}
 use Rattle.trace.proofs.rows.put_channel.Statement.{statement}
 use Rattle.trace.proofs.rows.put_channel.Tie as tie
 
 returns : tie.Need-returns
-unfolding rowOf
+unfolding channelRow
 returns c =
     let third = c .before .before .before in
     let second = third .before .before in

@@ -4,14 +4,14 @@ use mathlib.Core.Path.{_≡_, refl, sym, ap, _∙_}
 use mathlib.Core.Bool.{true, false}
 use Prim.Native.Nat.{ℕ, _+_, _≤_}
 use borrow.Author.Tests.{leb-true, not-true, not-false}
+use native.Mathlib.Omega.{arith}
 use lib.Dec.{leb}
 use lib.ListN.{length}
-use Rattle.trace_records.specs.Records.{Record}
-use Rattle.trace_records.specs.Judge.{judgedWith, recordRefusal}
+use Rattle.trace_records.specs.Records.{settings, block, reset, unknown, blockIn}
+use Rattle.trace_records.specs.Judge.{placeRefusal, formRefusal, recordRefusal}
 use Rattle.trace_records.specs.Steps.{recordFrom}
-use Rattle.trace.specs.Apply.{standingOf, traceOk}
-use Rattle.trace.specs.Steps.{stepAnswer, stepOver}
-use Rattle.trace.proofs.Stepping.{step-full, step-bad-state, step-refused}
+use Rattle.trace.specs.Apply.{channelsOf, standingOf, traceOk}
+use Rattle.trace.proofs.Stepping.{step-full, step-bad-state, step-by-kind, kind-refused}
 use Rattle.trace.proofs.steps.step.Statement.{statement}
 use Rattle.trace.proofs.steps.step.Tie as tie
 
@@ -28,30 +28,34 @@ bad-state c = step-bad-state _ _ _ _ (room (c .before .before)) (sym (c .before 
 asked : (c : tie.Else2) → (traceOk (c .before .before .before .before .before .before .args .t) ≡ true) × (c .before .before .before .before .before .before .args .at + 196 ≤ length (c .before .before .before .before .before .before .args .out .now))
 asked c = (sym (c .before .state-ok .ensures) ∙ not-false _ (c .if2 .left), leb-true _ _ (room (c .before .before)))
 
-settings : tie.Need-returns-3
+of-settings : tie.Need-returns-3
 unfolding recordFrom
-settings c =
+of-settings c =
     let a = c .before .before .before .before .before .before .before .before .before .before .before .before .before .before .args in
-    rw (← c .before .before .before .before .before .before .before .decode .ensures (standingOf (a .t)), c .before .before .before .before .before .decoded .given .1) (c .before .before .step-settings .ensures)
+    step-by-kind (a .t) _ _ _ (room (c .before .before .before .before .before .before .before .before .before .before)) (asked (c .before .before .before .before .before .before .before .before) .0) (settings (c .before .before .before .before .before .decoded .given .0 .0))
+    (rw (c .before .before .before .before .before .decoded .given .1) at (c .before .before .before .before .before .before .before .decode .ensures (standingOf (a .t)))) (c .before .before .step-settings .ensures)
 
-block : tie.Need-returns-4
+of-block : tie.Need-returns-4
 unfolding recordFrom
-block c =
+of-block c =
     let a = c .before .before .before .before .before .before .before .before .before .before .before .before .before .args in
-    rw (← c .before .before .before .before .before .before .decode .ensures (standingOf (a .t)), c .before .before .before .before .enum-told .given .1) (c .before .before .step-block .ensures)
+    step-by-kind (a .t) _ _ _ (room (c .before .before .before .before .before .before .before .before .before)) (asked (c .before .before .before .before .before .before .before) .0) (block (blockIn (channelsOf (a .t .estimator)) (a .«record» .now)))
+    (rw (c .before .before .before .before .enum-told .given .1) at (c .before .before .before .before .before .before .decode .ensures (standingOf (a .t)))) (c .before .before .step-block .ensures)
 
-reset : tie.Need-returns-5
+of-reset : tie.Need-returns-5
 unfolding recordFrom
-reset c =
+of-reset c =
     let a = c .before .before .before .before .before .before .before .before .before .before .before .before .before .before .args in
-    rw (← c .before .before .before .before .before .before .before .decode .ensures (standingOf (a .t)), c .before .before .before .before .before .decoded2 .given .1) (c .before .before .step-reset .ensures)
+    step-by-kind (a .t) _ _ _ (room (c .before .before .before .before .before .before .before .before .before .before)) (asked (c .before .before .before .before .before .before .before .before) .0) (reset (c .before .before .before .before .before .decoded2 .given .0 .0))
+    (rw (c .before .before .before .before .before .decoded2 .given .1) at (c .before .before .before .before .before .before .before .decode .ensures (standingOf (a .t)))) (c .before .before .step-reset .ensures)
 
-unknown : tie.Need-returns-6
-unfolding recordFrom recordRefusal judgedWith
-unknown c =
+of-unknown : tie.Need-returns-6
+unfolding recordFrom recordRefusal formRefusal placeRefusal
+of-unknown c =
     let a = c .before .before .before .before .before .before .before .before .before .before .before .before .before .args in
-    rw (← c .before .before .before .before .before .before .decode .ensures (standingOf (a .t)), c .before .before .before .before .enum-told2 .given .1)
-    (step-refused (a .t) _ _ _ (room (c .before .before .before .before .before .before .before .before .before)) (asked (c .before .before .before .before .before .before .before) .0) refl (λ e. search needs) (c .before .before .refuse .ensures))
+    step-by-kind (a .t) _ _ _ (room (c .before .before .before .before .before .before .before .before .before)) (asked (c .before .before .before .before .before .before .before) .0) unknown
+    (rw (c .before .before .before .before .enum-told2 .given .1) at (c .before .before .before .before .before .before .decode .ensures (standingOf (a .t))))
+    (kind-refused (a .t) (length (a .«record» .now)) unknown _ _ refl (λ e. omega arith) (c .before .before .refuse .ensures))
 
 pub step-spec : {M : Type 1} → statement M
 step-spec =
@@ -71,10 +75,10 @@ step-spec =
     (λ c. search needs)
     (λ c κs. asked (c .before .before .before .before) .1)
     (λ c. search needs)
-    settings
+    of-settings
     (λ c. search needs)
-    block
+    of-block
     (λ c. search needs)
-    reset
+    of-reset
     (λ c. search needs)
-    unknown)
+    of-unknown)

@@ -1,7 +1,7 @@
 -- By its kind.
 use borrow.Author.Needs.{needs}
 use mathlib.Core.Path.{_≡_, refl, sym, ap, _∙_}
-use Rattle.trace_records.specs.Judge.{judgedWith, recordRefusal}
+use Rattle.trace_records.specs.Judge.{placeRefusal, formRefusal, recordRefusal}
 use Rattle.trace_records.specs.Steps.{recordFrom}
 use Rattle.trace_records.proofs.judge.record_refusal.Statement.{statement}
 use Rattle.trace_records.proofs.judge.record_refusal.Tie as tie
@@ -19,7 +19,7 @@ unfolding recordFrom
 reset c = c .reset-refusal .ensures ∙ rw (← c .before .before .before .before .decode .ensures (c .before .before .before .before .before .before .args .standing), c .before .before .decoded2 .given .1)
 
 unknown : tie.Need-returns-4
-unfolding recordFrom judgedWith recordRefusal
+unfolding recordFrom placeRefusal formRefusal recordRefusal
 unknown c = rw (← c .before .before .decode .ensures (c .before .before .before .before .args .standing), c .enum-told2 .given .1)
 
 pub record-refusal-spec : {M : Type 1} → statement M

@@ -6,8 +6,8 @@ use lib.ListN.{length}
 use Rattle.trace_records.specs.Records.{blockIn}
 use Rattle.trace_records.specs.Judge.{valueRefusal}
 use Rattle.trace_records.proofs.Blocks.{block-tables, length-capture, length-residual}
-use Rattle.trace_records.proofs.judge.block_values.Statement.{statement}
-use Rattle.trace_records.proofs.judge.block_values.Tie as tie
+use Rattle.trace_records.proofs.judge.block_values_refusal.Statement.{statement}
+use Rattle.trace_records.proofs.judge.block_values_refusal.Tie as tie
 
 capture-room : tie.Need-array-share-prefix-y2
 capture-room c =
@@ -41,8 +41,8 @@ bad c =
     let tables = block-tables _ _ _ (c .before .before .before .before .before .before .before .before .before .before .pre .0) (c .before .before .before .before .before .before .before .before .before .before .pre .1) (c .before .before .before .before .before .before .before .before .block-in .ensures) in
     simp (sym (tables .render), sym (tables .capture), sym (tables .residual), sym (c .before .all-values-ok .ensures) ∙ c .if1 .left)
 
-pub block-values-spec : {M : Type 1} → statement M
-block-values-spec =
+pub block-values-refusal-spec : {M : Type 1} → statement M
+block-values-refusal-spec =
     tie.close
     (tie.spec
     (λ c κs. search needs)

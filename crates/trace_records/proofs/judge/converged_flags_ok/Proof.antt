@@ -8,8 +8,8 @@ use Rattle.aec3_common.proofs.Every.{Tested, tested-none, tested-more, tested-a
 use Rattle.aec3_common.proofs.Tables.{length-tab, getD-tab}
 use Rattle.trace_records.specs.Records.{convergedByte, flagsIn}
 use Rattle.trace_records.specs.Judge.{flagOk}
-use Rattle.trace_records.proofs.judge.flags_ok.Statement.{statement}
-use Rattle.trace_records.proofs.judge.flags_ok.Tie as tie
+use Rattle.trace_records.proofs.judge.converged_flags_ok.Statement.{statement}
+use Rattle.trace_records.proofs.judge.converged_flags_ok.Tie as tie
 
 abbrev Inv-loop : tie.InvT-loop
 Inv-loop «record» channels ok₀ ch₀ ok ch = Tested flagOk (tab channels (convergedByte «record»)) ch ok
@@ -36,8 +36,8 @@ done c =
     let byte = convergedByte (c .before .before .before .args .«record» .now) in
     tested-all (c .before .loop .inv) (omega (arith, length-tab n byte))
 
-pub flags-ok-spec : {M : Type 1} → statement M
-flags-ok-spec =
+pub converged-flags-ok-spec : {M : Type 1} → statement M
+converged-flags-ok-spec =
     tie.close
     (tie.spec
     Inv-loop
