@@ -1,18 +1,17 @@
 -- The estimator's own judging adds nothing to the record's.
-use mathlib.Core.Path.{_≡_, refl, sym, ap, _∙_}
-use mathlib.Core.Bool.{Bool, true, false, cond, not, _&&_}
-use mathlib.Core.List.{List, []}
-use Prim.Native.Nat.{ℕ, zero, suc, _+_, _*_, _/_, _≤_, _<_}
+use mathlib.Core.Path.{_≡_, refl, sym}
+use mathlib.Core.Bool.{true, _&&_}
+use mathlib.Core.List.{List}
+use Prim.Native.Nat.{ℕ, zero, suc, _≤_}
 use native.Mathlib.Omega.{arith}
 use borrow.Author.Tests.{eq-eqb, ne-eqb, eqb-true, le-leb}
 use lib.Dec.{eqb, leb}
-use lib.Ieee.{Float, ofBits, le, lt, eq}
-use lib.ListN.{length, getD}
+use lib.Ieee.{ofBits, le, lt, eq}
 use Rattle.aec3_common.specs.Binary32.{zero32, greatestValue, within, valuesOk}
-use Rattle.aec3_common.specs.Calls.{lengthsOk, valuesInRange}
+use Rattle.aec3_common.specs.Calls.{valuesInRange}
 use Rattle.aec3_common.specs.Lists.{tab, every}
-use Rattle.aec3_common.specs.Refusal.{unless, firstOf, accepted, badValue}
-use Rattle.aec3_common.specs.Settings.{headroomBlocks, sectionsOk, limitsAndChannelsRefusal, sectionedSettingsRefusal, settingsRefusal}
+use Rattle.aec3_common.specs.Refusal.{firstOf, accepted}
+use Rattle.aec3_common.specs.Settings.{sectionsOk, sectionedSettingsRefusal, settingsRefusal}
 use Rattle.aec3_common.proofs.Choices.{and-left, and-right, and-true}
 use Rattle.aec3_common.proofs.Every.{every-by}
 use Rattle.aec3_common.proofs.Tables.{length-tab, getD-tab}
@@ -25,7 +24,7 @@ use Rattle.trace_records.specs.Records.{BlockRecord, settings, block, erleSetti
 use Rattle.trace_records.specs.Judge.{valueRefusal}
 use Rattle.trace_records.proofs.Blocks.{length-flags, length-render, length-capture, length-residual}
 use Rattle.trace.specs.declared.Trace.{Trace}
-use Rattle.trace.specs.Apply.{channelsOf, traceOk, silentRing, updateIn}
+use Rattle.trace.specs.Apply.{channelsOf, traceOk, updateIn}
 
 -- a refusal, and nothing after it
 first-alone : (n : ℕ) → firstOf n accepted ≡ n

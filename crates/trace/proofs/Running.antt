@@ -1,5 +1,5 @@
 -- What a run from the beginning keeps.
-use mathlib.Core.Path.{_≡_, refl, sym, ap, _∙_, subst}
+use mathlib.Core.Path.{_≡_, refl, ap, _∙_, subst}
 use mathlib.Core.Bool.{Bool, true, false, cond, _||_}
 use mathlib.Core.List.{List, [], _∷_}
 use Prim.Native.Nat.{ℕ, _≤_}
@@ -18,7 +18,7 @@ use Rattle.erle_estimator.proofs.Good.{Good, good-ok, start-good, update-good, 
 use Rattle.trace_records.specs.declared.judge.Standing.{Standing}
 use Rattle.trace_records.specs.declared.records.SettingsRecord.{SettingsRecord}
 use Rattle.trace_records.specs.Records.{Record, settings, block, reset, unknown, isSet, erleSettings, settingsIn, blockIn, delayFlagIn, kindOf, settingsKind, blockKind, resetKind, decoded}
-use Rattle.trace_records.specs.Judge.{nothingStands, stands, standingAfter, recordRefusal, refusalIn}
+use Rattle.trace_records.specs.Judge.{standingAfter, recordRefusal}
 use Rattle.trace_records.proofs.Judged.{both-passed, block-ok, reset-stands, unknown-refused}
 use Rattle.trace.specs.declared.Trace.{Trace}
 use Rattle.trace.specs.Apply.{channelsOf, standingOf, beginning, traceOk, updateIn, nextOf}
@@ -52,7 +52,8 @@ update-keeps e u =
 
 -- ---- what a run keeps
 
--- Before settings there are no channels; after them the estimator is one that a run from a start gives, with one section and without headroom.
+-- Before settings there are no channels; after them the estimator is one that a run from a start gives, with one section and without
+-- headroom.
 pub data Sound (e : ErleEstimator) : Type 0 where
   idle : channelsOf e ≡ 0 → Sound e
   going : Good e → e .settings .«num_sections» ≡ 1 → e .settings .«delay_headroom_samples» ≡ 0 → Sound e

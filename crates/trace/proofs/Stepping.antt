@@ -1,10 +1,10 @@
 -- The outcomes of a step.
-use mathlib.Core.Path.{_≡_, refl, sym, ap, _∙_}
+use mathlib.Core.Path.{_≡_, sym, _∙_}
 use mathlib.Core.Bool.{true, false}
 use mathlib.Core.List.{List, []}
 use Prim.Native.Nat.{ℕ, _+_, _≤_}
 use native.Mathlib.Omega.{arith}
-use borrow.Author.Tests.{eq-eqb, ne-eqb, leb-true}
+use borrow.Author.Tests.{ne-eqb, leb-true}
 use lib.Dec.{leb}
 use lib.ListN.{length}
 use Rattle.aec3_common.specs.Refusal.{accepted, badState}

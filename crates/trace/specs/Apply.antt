@@ -40,8 +40,8 @@ beginning = record { estimator = startedWith 0 0 refusedSettings; band = 0; bloc
 abbrev pub oneSectionNoHeadroom : ErleSettings → Bool
 oneSectionNoHeadroom g = eqb (g .«num_sections») 1 && eqb (g .«delay_headroom_samples») 0
 
--- Before settings every state passes. After them 20 lets the estimator pass, and it has one section and no headroom, as settings records
--- start it.
+-- Before settings every state passes. After them a state passes if 20 lets its estimator pass, and it has one section and no headroom, as
+-- settings records start it.
 unfoldable pub traceOk : Trace → Bool
 traceOk t = eqb (channelsOf (t .estimator)) 0 || (stateOk (t .estimator) && oneSectionNoHeadroom (t .estimator .settings))
 
@@ -69,8 +69,8 @@ updateIn n b =
 
 -- ---- the state after an accepted record
 
--- Settings are a start, and say which band is printed; a block is an update, and counts as a block, over the whole trace; a reset is a reset. Every
--- accepted record counts as a record.
+-- Settings are a start, and say which band is printed; a block is an update, and counts as a block, over the whole trace; a reset is a
+-- reset. Every accepted record counts as a record.
 unfoldable pub nextOf : Trace → Record → Trace
 nextOf t (settings s) =
     record {

@@ -19,20 +19,19 @@ use trace_records::judge::settings_refusal;
 use trace_text::put_refused;
 ghost use mathlib.Core.Path.{_≡_};
 ghost use mathlib.Core.Bool.{true};
-ghost use mathlib.Core.List.{List};
-ghost use Prim.Native.Nat.{ℕ, _+_, _≤_};
+ghost use Prim.Native.Nat.{_+_, _≤_};
 ghost use lib.ListN.{length as ListN·length};
 ghost use Rattle.encoding.specs.Text.{laid};
 ghost use Rattle.erle_estimator.specs.Erle.{updateAnswer};
 ghost use Rattle.trace_records.specs.Records.{settings as Record·settings, block as Record·block, reset as Record·reset, blockIn};
 ghost use Rattle.trace_records.specs.Judge.{blockLength};
 ghost use Rattle.trace_text.specs.Text.{line};
-ghost use Rattle.trace.specs.Apply.{channelsOf, standingOf, traceOk, updateIn};
+ghost use Rattle.trace.specs.Apply.{channelsOf, traceOk, updateIn};
 ghost use Rattle.trace.specs.Listing.{refusedAt};
 ghost use Rattle.trace.specs.Kinds.{kindAnswer, kindOver};
 
-// What stands once there are such settings, as the beginning's estimator has them too: without channels, no settings stand.
-pub fn standing_of(settings: ErleSettings) -> Standing
+// What stands beside an estimator with such settings. The beginning's has no channels: no settings stand.
+fn standing_of(settings: ErleSettings) -> Standing
     ensures { λ r. ⌜ r ≡ record { «num_capture_channels» = settings .«num_capture_channels» } ⌝ }
 {
     Standing {

@@ -28,7 +28,8 @@ ghost use Rattle.trace.specs.Steps.{stepAnswer, stepOver};
 // Room enough for the lines of a record: four rows of at most 49 bytes.
 pub const MOST_TEXT: usize = 196;
 
-// The state after a record; the place behind its lines; the number under which it was refused, or 0; and whether there was room.
+// The state after a record; the place behind its lines; the number under which it, or the state, was turned away, or 0; and whether there was
+// room.
 pub struct Stepped {
     pub state: Trace,
     pub at: usize,

@@ -1,11 +1,11 @@
 -- Blocks that are stepped in place, against steps.
 use mathlib.Core.Path.{_≡_, refl, sym, ap, _∙_}
 use mathlib.Core.Bool.{Bool, true, false, cond, _&&_, false≢true}
-use mathlib.Core.List.{List, []}
+use mathlib.Core.List.{List}
 use Prim.Native.Nat.{ℕ, zero, suc, _+_, _-_, _≤_, _<_}
 use native.Mathlib.Omega.{arith}
 use borrow.Author.Tests.{eq-eqb, ne-eqb, eqb-true, le-leb, le-ltb}
-use lib.Dec.{eqb, leb, ltb}
+use lib.Dec.{eqb, leb}
 use lib.ListN.{length, take, drop, length-drop}
 use lib.Seq.{take-all, drop-drop}
 use Rattle.aec3_common.specs.declared.settings.ErleSettings.{ErleSettings}
@@ -20,14 +20,14 @@ use Rattle.erle_estimator.specs.declared.ErleEstimator.{ErleEstimator}
 use Rattle.erle_estimator.specs.Erle.{Update, stateOk, counted, updated, afterAccepted, sectioned, erleShown, streamsShown}
 use Rattle.trace_records.specs.declared.judge.Standing.{Standing}
 use Rattle.trace_records.specs.declared.records.Decoded.{Decoded}
-use Rattle.trace_records.specs.declared.records.Decoded.the-variants.{Settings, Block, Reset, Unknown}
+use Rattle.trace_records.specs.declared.records.Decoded.the-variants.{Block}
 use Rattle.trace_records.specs.Frames.{lengthIn, framed, recordIn, frameLength}
 use Rattle.trace_records.specs.Records.{Record, settings, block, reset, unknown, settingsIn, blockIn, delayFlagIn, kindOf, settingsKind, blockKind, resetKind, decoded}
 use Rattle.trace_records.specs.Judge.{valueRefusal, formRefusal, recordRefusal}
 use Rattle.trace_records.specs.Steps.{recordFrom}
 use Rattle.trace_records.proofs.Framing.{framed-least, framed-most, framed-room, framed-length, length-framed, no-length-framed}
 use Rattle.trace_records.proofs.Judged.{BlockOk, block-ok, form-passed, both-passed}
-use Rattle.trace_text.specs.Text.{Item, lines}
+use Rattle.trace_text.specs.Text.{lines}
 use Rattle.trace.specs.declared.Trace.{Trace}
 use Rattle.trace.specs.declared.steps.Stepped.{Stepped}
 use Rattle.trace.specs.Apply.{channelsOf, standingOf, oneSectionNoHeadroom, traceOk, updateIn, nextOf, channelRow, rowAt, blockRows, rowsOf}
@@ -110,7 +110,7 @@ whole-is s is some =
 
 -- ---- a block frame
 
--- the block that a record is under so many channels
+-- the block that a record is under what stands
 abbrev blockOf : Standing → List ℕ → Record
 blockOf st r = block (blockIn (st .«num_capture_channels») r)
 
@@ -224,7 +224,7 @@ module _ (t : Trace) (s : List ℕ) (frame : BlockFrame (standingOf t) s) where
   pub block-form : BlockOk (standingOf t) (length bytes)
   block-form = block-ok (standingOf t) _ _ (frame .form)
 
-  -- the estimator and the rows after it
+  -- the estimator after it
   abbrev after : ErleEstimator
   after = updated (counted e) blockUpdate
 

@@ -1,15 +1,15 @@
 -- What judging a record tells.
-use mathlib.Core.Path.{_≡_, refl}
-use mathlib.Core.Bool.{Bool, true, false}
-use Prim.Native.Nat.{ℕ, suc, _≤_}
+use mathlib.Core.Path.{_≡_}
+use mathlib.Core.Bool.{true}
+use Prim.Native.Nat.{ℕ, _≤_}
 use native.Mathlib.Omega.{arith}
 use borrow.Author.Tests.{eqb-true, eq-eqb, ne-eqb}
 use lib.Dec.{eqb}
-use Rattle.aec3_common.specs.Refusal.{unless, firstOf, accepted, badRecordLength, badFlagOrBand}
+use Rattle.aec3_common.specs.Refusal.{unless, accepted, badRecordLength, badFlagOrBand}
 use Rattle.aec3_common.proofs.Choices.{passed, later-passed, first-of-passed}
 use Rattle.aec3_common.proofs.Ranges.{from-lo, to-hi}
 use Rattle.trace_records.specs.declared.judge.Standing.{Standing}
-use Rattle.trace_records.specs.Records.{BlockRecord, Record, settings, block, reset, unknown}
+use Rattle.trace_records.specs.Records.{BlockRecord, Record, block, reset, unknown}
 use Rattle.trace_records.specs.Judge.{stands, placeRefusal, blockLength, lengthAsked, flagsOk, valueRefusal, formRefusal, recordRefusal}
 
 -- ---- form, and then values

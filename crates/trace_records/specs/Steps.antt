@@ -17,7 +17,7 @@ use Rattle.trace_records.specs.Judge.{blockLength}
 
 -- ---- a record in an enum
 
--- the record that it stands for, beside the bytes: there is no room in it for a block's spectra
+-- the record that it stands for, beside the bytes: it holds no spectra of a block
 unfoldable pub recordFrom : Standing → List ℕ → Decoded → Record
 recordFrom st r (Settings s) = settings s
 recordFrom st r Block = block (blockIn (st .«num_capture_channels») r)

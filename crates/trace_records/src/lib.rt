@@ -1,4 +1,4 @@
-// The records of a trace in bytes: where each begins and ends, what its bytes say, and which number turns it away.
+// The records of a trace in bytes: where each begins and ends, what its bytes say, what stands after it, and which number turns it away.
 pub mod frames;
 pub mod judge;
 pub mod records;

@@ -42,7 +42,7 @@ pub struct SettingsRecord {
     pub band: usize,
 }
 
-// A record by its kind. There is no room in it for a block's spectra, which `block_in` reads.
+// A record by its kind. It holds no spectra of a block; `block_in` reads these.
 pub enum Decoded {
     Settings(SettingsRecord),
     Block,

@@ -1,11 +1,9 @@
 -- The tests are the definition's.
 use borrow.Author.Needs.{needs}
 use borrow.Author.Tests.{eq-eqb, ne-eqb}
-use mathlib.Core.Path.{_≡_, refl, sym, _∙_}
+use mathlib.Core.Path.{sym, _∙_}
 use mathlib.Core.Bool.{true, false}
 use native.Mathlib.Omega.{arith}
-use Rattle.aec3_common.specs.Refusal.{accepted}
-use Rattle.trace_records.specs.declared.records.Decoded.the-variants.{Settings, Block, Reset, Unknown}
 use Rattle.trace_records.specs.Steps.{recordFrom}
 use Rattle.trace_blocks.specs.Blocks.{isBlock}
 use Rattle.trace_blocks.proofs.InPlace.{Whole, whole-is, frame-none, frame-by, frame-other}

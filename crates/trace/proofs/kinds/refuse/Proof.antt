@@ -1,10 +1,8 @@
 -- There is room for the line.
 use borrow.Author.Needs.{needs}
-use mathlib.Core.Path.{_≡_, refl, sym, _∙_}
 use native.Mathlib.Omega.{arith}
 use Rattle.encoding.proofs.Writing.{wrote}
 use Rattle.trace_text.proofs.Lines.{line-short}
-use Rattle.trace.specs.declared.Trace.{Trace}
 use Rattle.trace.specs.Listing.{refusedAt}
 use Rattle.trace.proofs.kinds.refuse.Statement.{statement}
 use Rattle.trace.proofs.kinds.refuse.Tie as tie

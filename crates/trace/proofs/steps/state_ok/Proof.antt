@@ -1,7 +1,7 @@
 -- Before settings nothing is asked.
 use borrow.Author.Needs.{needs}
 use borrow.Author.Tests.{eq-eqb, ne-eqb}
-use mathlib.Core.Path.{_≡_, sym, _∙_}
+use mathlib.Core.Path.{sym}
 use Rattle.trace.specs.Apply.{traceOk}
 use Rattle.trace.proofs.steps.state_ok.Statement.{statement}
 use Rattle.trace.proofs.steps.state_ok.Tie as tie

@@ -1,4 +1,4 @@
--- ok says at each turn whether the flags passed so far are such.
+-- ok says at each turn whether the flags looked at so far are 0 or 1.
 use mathlib.Core.Path.{ap, sym, _∙_}
 use Prim.Native.Nat.{_-_}
 use native.Mathlib.Omega.{arith}

@@ -1,6 +1,6 @@
 -- By its kind.
 use borrow.Author.Needs.{needs}
-use mathlib.Core.Path.{_≡_, refl, sym, ap, _∙_}
+use mathlib.Core.Path.{_∙_}
 use Rattle.trace_records.specs.Judge.{placeRefusal, formRefusal, recordRefusal}
 use Rattle.trace_records.specs.Steps.{recordFrom}
 use Rattle.trace_records.proofs.judge.record_refusal.Statement.{statement}

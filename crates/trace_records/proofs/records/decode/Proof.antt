@@ -1,8 +1,7 @@
 -- By its kind.
 use borrow.Author.Needs.{needs}
 use borrow.Author.Tests.{eq-eqb, ne-eqb}
-use mathlib.Core.Path.{_≡_, sym, _∙_}
-use native.Mathlib.Omega.{arith}
+use mathlib.Core.Path.{sym, _∙_}
 use Rattle.trace_records.specs.Records.{decoded}
 use Rattle.trace_records.specs.Steps.{recordFrom}
 use Rattle.trace_records.proofs.records.decode.Statement.{statement}

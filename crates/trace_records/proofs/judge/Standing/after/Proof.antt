@@ -1,6 +1,5 @@
 -- Only settings move it.
 use borrow.Author.Needs.{needs}
-use mathlib.Core.Path.{_≡_, refl, sym, ap, _∙_}
 use Rattle.trace_records.specs.Judge.{standingAfter}
 use Rattle.trace_records.specs.Steps.{recordFrom}
 use Rattle.trace_records.proofs.judge.Standing.after.Statement.{statement}
