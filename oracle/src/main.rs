@@ -142,7 +142,8 @@ fn compare_with(files: &[&str]) -> Result<ExitCode, String> {
 
 /// Where a program is built.
 fn built(program: Program) -> String {
-    format!("target/bin/{}", program.name())
+    let name = program.name();
+    format!("crates/{name}/out/{name}")
 }
 
 /// Writes a program's stored sample, its input and its lines.

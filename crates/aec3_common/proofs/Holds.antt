@@ -1,5 +1,5 @@
 -- Signed numbers of 32 bits: what is read back, and a hold that falls.
-use Rattle.std.proofs.Common.{◌≡◌, ℕ, zero, suc, ◌^◌, ◌<◌, true, false, ℤ, pos, negsuc, ◌-ℤ◌, sym, refl, ap, ◌∙◌, arith, to_z-of_z, w32, SFits, to_z, of_z, le-ltb, leb-false}
+use Rattle.std.proofs.Common.{◌≡◌, zero, suc, ◌^◌, ◌<◌, true, false, ℤ, pos, negsuc, ◌-ℤ◌, sym, refl, ap, ◌∙◌, arith, to_z-of_z, w32, SFits, to_z, of_z, le-ltb, leb-false}
 use lib.Dec.{eqb-suc-zero}
 use lib.Signed.{mag, le_z}
 use Rattle.aec3_common.specs.Counts.{is_zero}

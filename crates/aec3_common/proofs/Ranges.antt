@@ -1,5 +1,5 @@
 -- What the tests of numbers 2 and 3 tell.
-use Rattle.std.proofs.Common.{◌≡◌, ℕ, ◌+◌, ◌≤◌, Bool, true, ◌&&◌, ◌||◌, leb, leb-true}
+use Rattle.std.proofs.Common.{◌≡◌, ℕ, ◌+◌, ◌≤◌, true, ◌&&◌, ◌||◌, leb, leb-true}
 use borrow.Author.Tests.{lt-leb}
 use Rattle.aec3_common.specs.Refusal.{fromTo}
 use Rattle.aec3_common.specs.Settings.{headroomBlocks, roomForSections, rangesOk, sectionsOk, maxSections, maxFilterLengthBlocks, maxHeadroomSamples}

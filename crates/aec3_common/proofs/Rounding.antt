@@ -1,9 +1,9 @@
 -- The order of binary32 numbers with positive ones, and what rounding keeps of a sign.
-use Rattle.std.proofs.Common.{◌≡◌, ℕ, zero, suc, ◌+◌, ◌*◌, ◌^◌, ◌<◌, ◌≤◌, Bool, true, false, cond, not, ◌&&◌, ◌||◌, T, eqb, ltb, ◌⊎◌, ℤ, pos, sym, refl, subst, inl, inr, eq-or-lt_of_le, mul-pos, arith, ltb→lt, lt→ltb, nltb→le, T_not}
+use Rattle.std.proofs.Common.{◌≡◌, ℕ, zero, suc, ◌+◌, ◌*◌, ◌^◌, ◌<◌, ◌≤◌, Bool, true, false, cond, not, ◌&&◌, ◌||◌, T, eqb, ltb, ℤ, pos, sym, subst, inl, inr, eq-or-lt_of_le, mul-pos, arith, ltb→lt, lt→ltb, nltb→le, T_not}
 use lib.Dec.{eqb_refl}
 use lib.Ieee.{Float, nan, inf, fin, Format, prec, emax, low, up, down, odd, units, round, lt, le, is_nan}
 use lib.Ieee.Fits.{up_pos, down_pos, and_i, round_is}
-use lib.Ieee.Positive.{positive, above}
+use lib.Ieee.Positive.{positive}
 
 -- ---- tests
 

@@ -10,6 +10,7 @@ pub const GREATEST_VALUE: f32 = 1267650600228229401496703205376.0;
 pub const GREATEST_SUM: f32 = 1298074214633706907132624082305024.0;
 
 // x within lo and hi, as Rust's f32::clamp: a NaN stays.
+#[tactic(auto, unfolding(crate::specs::Binary32::clamped))]
 pub fn clamp(x: f32, lo: f32, hi: f32) -> f32
     ensures { result ≡ clamped x lo hi }
 {
@@ -23,6 +24,7 @@ pub fn clamp(x: f32, lo: f32, hi: f32) -> f32
 }
 
 // The larger of two; the first unless the second is above it.
+#[tactic(auto, unfolding(crate::specs::Binary32::larger))]
 pub fn larger(a: f32, b: f32) -> f32
     ensures { result ≡ Binary32·larger a b }
 {
@@ -30,6 +32,7 @@ pub fn larger(a: f32, b: f32) -> f32
 }
 
 // The smaller of two; the first unless the second is below it.
+#[tactic(auto, unfolding(crate::specs::Binary32::smaller))]
 pub fn smaller(a: f32, b: f32) -> f32
     ensures { result ≡ Binary32·smaller a b }
 {
@@ -37,6 +40,7 @@ pub fn smaller(a: f32, b: f32) -> f32
 }
 
 // old, moved towards new by a share of the difference.
+#[tactic(auto, unfolding(crate::specs::Binary32::moved))]
 pub fn moved(old: f32, new: f32, share: f32) -> f32
     ensures { result ≡ Binary32·moved old new share }
 {

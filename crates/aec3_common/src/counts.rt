@@ -3,6 +3,7 @@ ghost use Rattle.std.specs.Prelude.{◌≡◌};
 ghost use Rattle.aec3_common.specs.Counts.{oneMore, fallen as Counts·fallen};
 
 // One more of what is counted.
+#[tactic(auto, unfolding(crate::specs::Counts::oneMore))]
 pub fn one_more(n: u32) -> u32
     ensures { result ≡ oneMore n }
 {

@@ -24,6 +24,7 @@ pub fn all_values_ok(x2: &[f32], y2: &[f32], e2: &[f32]) -> bool
 }
 
 // The first of 20, 21, 5 and 6, or 0, for a caller that has judged its state.
+#[tactic(auto, unfolding(crate::specs::Calls::callRefusal))]
 pub fn call_refusal(
     state_ok: bool,
     count: usize,

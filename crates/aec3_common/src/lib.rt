@@ -1,4 +1,6 @@
 // What every estimator shares: the bands, the refusal numbers, binary32 helpers, the settings, the judging of updates, and log2.
+#![tactic(auto)]
+
 pub mod binary32;
 pub mod counts;
 pub mod judge;

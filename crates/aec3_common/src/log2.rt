@@ -5,13 +5,14 @@ ghost use Rattle.aec3_common.specs.Log2.{approxLog2, log2Answer, rounded as Log2
 use crate::refusal::BAD_LOG2_INPUT;
 use encoding::bits_of;
 
-#[derive(Drop)]
+#[derive(Clone, Copy)]
 pub enum Log2 {
     Value(f32),
     Refused(u32),
 }
 
 // Log2 of a positive number, plus infinity included; of any other 7.
+#[tactic(auto, unfolding(crate::specs::Log2::log2Answer))]
 pub fn fast_approx_log2f(input: f32) -> Log2
     ensures { result ≡ log2Answer input }
 {

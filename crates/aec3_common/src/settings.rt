@@ -19,7 +19,7 @@ pub const MAX_FILTER_LENGTH_BLOCKS: usize = 16;
 
 pub const MAX_HEADROOM_SAMPLES: usize = 1024;
 
-#[derive(Drop)]
+#[derive(Clone, Copy)]
 pub struct ErleSettings {
     pub min: f32,
     pub max_l: f32,
@@ -81,6 +81,7 @@ fn ranges_ok(sections: usize, length: usize, samples: usize) -> bool
 }
 
 // Number 3. The sum is made only where it cannot wrap.
+#[tactic(auto, unfolding(crate::specs::Settings::sectionsOk))]
 pub fn sections_ok(sections: usize, length: usize, samples: usize) -> bool
     ensures { result ≡ sectionsOk sections length samples }
 {
@@ -92,6 +93,7 @@ pub fn sections_ok(sections: usize, length: usize, samples: usize) -> bool
 }
 
 // The first of 1 and 2, or 0.
+#[tactic(auto, unfolding(crate::specs::Settings::limitsAndChannelsRefusal))]
 pub fn limits_and_channels_refusal(min: f32, max_l: f32, max_h: f32, channels: usize) -> u32
     ensures { result ≡ limitsAndChannelsRefusal min max_l max_h channels }
 {
@@ -105,6 +107,7 @@ pub fn limits_and_channels_refusal(min: f32, max_l: f32, max_h: f32, channels: u
 }
 
 // The first of 1, 2 and 3, or 0.
+#[tactic(auto, unfolding(crate::specs::Settings::sectionedSettingsRefusal))]
 pub fn sectioned_settings_refusal(
     min: f32,
     max_l: f32,
@@ -128,6 +131,7 @@ pub fn sectioned_settings_refusal(
 
 impl ErleSettings {
     // The first of 1, 2 and 3 that the settings break, or 0.
+    #[tactic(auto, unfolding(crate::specs::Settings::settingsRefusal))]
     pub fn refusal(self) -> u32
         ensures { result ≡ settingsRefusal self }
     {

@@ -3,6 +3,7 @@ ghost use Rattle.std.specs.Prelude.{◌≡◌};
 ghost use Rattle.aec3_common.specs.Streams.{erleOf};
 
 // The stream that is asked for, of the two that are lent: the compensated one only with onset detection on.
+#[tactic(auto, unfolding(crate::specs::Streams::erleOf))]
 pub fn erle<'a>(
     plain: &'a [f32],
     compensated: &'a [f32],

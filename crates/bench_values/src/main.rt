@@ -1,10 +1,13 @@
 // Asks the code for the bench values of document 01 and tells of each whether it is as given.
+#![tactic(auto)]
+
 use aec3_common::log2::rounded;
 use aec3_common::{Log2, fast_approx_log2f};
 use encoding::{bits_of, put_bytes};
 use erl_estimator::ErlEstimator;
 use filter_sections::section_boundaries;
 use spectrum_buffer::{Place, offset_index};
+use std::io::Write;
 
 fn log2_has_bits(x: f32, bits: u32) -> bool {
     match fast_approx_log2f(x) {
@@ -126,17 +129,18 @@ fn tell_erl(out: &mut [u8], at: usize) -> usize {
     )
 }
 
-fn write_out(text: &[u8], n: usize) {
+// Writes the text before a place. A failure can be told nowhere.
+fn write_out<W: Write>(writer: &mut W, text: &[u8], n: usize) {
     if n <= text.len() {
-        io::write_all(1, &text[0..n]);
+        let _ = writer.write_all(&text[0..n]);
     }
 }
 
-fn main() {
-    let mut out = io::buffer();
+fn main(rt: HostRuntime) {
+    let mut out = [0; 4096];
     let at = tell_log2(&mut out, 0);
     let at = tell_ring(&mut out, at);
     let at = tell_sections(&mut out, at);
     let at = tell_erl(&mut out, at);
-    write_out(&out, at);
+    write_out(&mut rt.stdout(), &out, at);
 }

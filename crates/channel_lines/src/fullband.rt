@@ -69,7 +69,7 @@ fn put_qualities(
 }
 
 // What an estimator answers over all its channels: the log2 figure, the same in decibels, and the quality of each channel.
-#[derive(Drop)]
+#[derive(Clone, Copy)]
 pub struct FullReadings {
     pub log2: FullBandFigure,
     pub db: FullBandFigure,

@@ -1,5 +1,7 @@
 // The lines that show the records of a channel, and what a fullband estimator answers over all channels, for the programs
 // that replay a script of library calls. No function asks anything of its caller.
+#![tactic(auto)]
+
 mod fields;
 mod fullband;
 mod signed;

@@ -13,6 +13,7 @@ use filter_sections::{max_erle, subband_bands};
 // A factor moves after so many updates of its subband.
 const MIN_UPDATES_FOR_CORRECTION: u32 = 50;
 
+#[tactic(auto, unfolding(crate::specs::Steps::countWith))]
 fn count_with(n: u32, updated: bool) -> u32
     ensures { result ≡ countWith updated n }
 {
@@ -40,6 +41,7 @@ fn share(updated: bool, new: f32, erle: f32) -> f32
 }
 
 // A section's estimate, or the reference, with a subband's new ratio.
+#[tactic(auto, unfolding(crate::specs::Factors::erleMoved, crate::specs::Steps::movedIn))]
 fn moved_erle(erle: f32, updated: bool, new: f32, limits: ErleLimits, s: usize) -> f32
     ensures { result ≡ movedIn limits.min limits.max_l limits.max_h s updated new erle }
 {
@@ -80,6 +82,7 @@ pub fn move_estimates(
     }
 }
 
+#[tactic(auto, unfolding(crate::specs::Factors::factorMoved))]
 fn moved_factor(factor: f32, updated: bool, updates: u32, estimate: f32, reference: f32) -> f32
     ensures { result ≡ factorMoved updated updates estimate reference factor }
 {

@@ -9,6 +9,7 @@ ghost use Rattle.correction_factors.specs.Factors.{isUpdated, leastFrom, leastAc
 use aec3_common::X2_BAND_ENERGY_THRESHOLD;
 use filter_sections::subband_bands;
 
+#[tactic(auto, unfolding(crate::specs::Factors::isUpdated))]
 fn is_updated(x2: f32, e2: f32) -> bool
     ensures { result ≡ isUpdated x2 e2 }
 {

@@ -1,4 +1,6 @@
 // What a channel learns about the sections of its filter, subband by subband, and the factors that come of it.
+#![tactic(auto)]
+
 mod learning;
 mod lessons;
 mod streams;
@@ -13,7 +15,7 @@ pub use streams::{band_factors, copy_last, correct_stream};
 pub use subbands::subband_sums;
 
 // Estimates and factors stand section by section, eight times six subbands; references and updates for each subband.
-#[derive(Drop)]
+#[derive(Clone, Copy)]
 pub struct CorrectionFactors {
     pub erle_estimators: [f32; 48],
     pub erle_ref: [f32; 6],
@@ -22,7 +24,7 @@ pub struct CorrectionFactors {
 }
 
 // The limits of an ERLE: the minimum, and the maxima of the lower and the upper bands.
-#[derive(Drop)]
+#[derive(Clone, Copy)]
 pub struct ErleLimits {
     pub min: f32,
     pub max_l: f32,
@@ -30,6 +32,7 @@ pub struct ErleLimits {
 }
 
 impl CorrectionFactors {
+    #[tactic(auto, unfolding(crate::specs::Factors::freshFactors, aec3_common::specs::Lists::tab))]
     pub fn new(min: f32) -> CorrectionFactors
         ensures { result ≡ freshFactors min }
     {

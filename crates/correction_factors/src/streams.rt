@@ -12,6 +12,7 @@ use aec3_common::clamp;
 use filter_sections::{max_erle, subband_bands};
 
 // Where the bands that map to a subband begin: band 0 maps to subband 0, though it is summed in none.
+#[tactic(auto, unfolding(crate::specs::Steps::firstBand, filter_sections::specs::Subbands::subbandBands))]
 fn first_band(subband: usize) -> usize
     ensures { result ≡ firstBand subband }
 {

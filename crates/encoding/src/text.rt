@@ -59,7 +59,7 @@ fn hex_digits(n: u32) -> [u8; 8]
 }
 
 // Digits from a place on to the end of a table.
-#[derive(Drop)]
+#[derive(Clone, Copy)]
 struct Digits {
     text: [u8; 10],
     from: usize,

@@ -9,6 +9,7 @@ use aec3_common::X2_BAND_ENERGY_THRESHOLD;
 use aec3_common::counts::fallen;
 
 // The ratio that a band learns from. Where render is not above the threshold it is infinite, which is below no ERL.
+#[tactic(auto, unfolding(crate::specs::Steps::newErl))]
 fn new_erl(render: f32, capture: f32) -> f32
     ensures { result ≡ newErl render capture }
 {
@@ -40,6 +41,7 @@ fn hold_after(new: f32, erl: f32, hold: i32) -> i32
     }
 }
 
+#[tactic(auto, unfolding(crate::specs::Figure::learntErl))]
 fn learnt_erl(new: f32, erl: f32) -> f32
     ensures { result ≡ learntErl (lt new erl) new erl }
 {

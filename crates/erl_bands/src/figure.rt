@@ -14,7 +14,7 @@ pub const MAX_ERL: f32 = 1000.0;
 
 pub const HOLD_BLOCKS: i32 = 1000;
 
-#[derive(Drop)]
+#[derive(Clone, Copy)]
 pub struct Figure {
     pub erl: f32,
     pub hold: i32,
@@ -27,12 +27,14 @@ fn learns(threshold: f32, render: f32, capture: f32, erl: f32) -> bool
 }
 
 // The ERL moved towards a new one below it.
+#[tactic(auto, unfolding(crate::specs::Figure::learntErl))]
 pub(crate) fn moved_down(erl: f32, new: f32) -> f32
     ensures { result ≡ learntErl true new erl }
 {
     larger(moved(erl, new, 0.1), MIN_ERL)
 }
 
+#[tactic(auto, unfolding(crate::specs::Figure::learnt, crate::specs::Figure::learntErl, crate::specs::Figure::learntHold))]
 fn learnt(threshold: f32, render: f32, capture: f32, f: Figure) -> Figure
     ensures { result ≡ Figure·learnt threshold render capture f }
 {
@@ -67,6 +69,7 @@ fn rested(f: Figure) -> Figure
 }
 
 // A figure one block later.
+#[tactic(auto, unfolding(crate::specs::Figure::afterBlock))]
 fn after_block(threshold: f32, render: f32, capture: f32, f: Figure) -> Figure
     ensures { result ≡ afterBlock threshold render capture f }
 {

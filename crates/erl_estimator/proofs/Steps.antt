@@ -21,7 +21,6 @@ use Rattle.erl_bands.specs.declared.figure.Figure.{Figure}
 use Rattle.erl_bands.specs.Figure.{afterBlock}
 use Rattle.erl_bands.specs.Steps.{newErl, newErls, erlBy, holdBy, erlsBy, holdsBy}
 use Rattle.erl_bands.proofs.Steps.{figure-by}
-use Rattle.erl_estimator.specs.declared.reduce.FirstConverged.{FirstConverged}
 use Rattle.erl_estimator.specs.declared.reduce.FirstConverged.TheVariants.{Channel, Nothing}
 use Rattle.erl_estimator.specs.Erl.{bandAfter, greatestOver, reduced}
 use Rattle.erl_estimator.specs.First.{firstFrom}

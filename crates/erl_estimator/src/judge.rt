@@ -28,6 +28,7 @@ fn lengths_ok(
 }
 
 // The first of 2, 5 and 6, or 0.
+#[tactic(auto, unfolding(crate::specs::Erl::updateRefusal))]
 pub fn update_refusal(
     captures: usize,
     renders: usize,

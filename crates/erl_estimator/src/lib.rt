@@ -1,4 +1,6 @@
 // Echo return loss: the ERL of each band, and the time-domain ERL.
+#![tactic(auto)]
+
 mod judge;
 mod reduce;
 
@@ -14,7 +16,7 @@ use erl_bands::figure::{Figure, MAX_ERL, time_domain_after};
 use judge::update_refusal;
 use reduce::{FirstConverged, all_reduced, first_converged, reduced_from};
 
-#[derive(Drop)]
+#[derive(Clone, Copy)]
 pub struct ErlEstimator {
     pub erl: [f32; 65],
     pub hold_counters: [i32; 63],
@@ -25,7 +27,7 @@ pub struct ErlEstimator {
 }
 
 // The next state and 0, or the state as it was and the number under which the call is turned away.
-#[derive(Drop)]
+#[derive(Clone, Copy)]
 pub struct ErlUpdate {
     pub state: ErlEstimator,
     pub refused: u32,
@@ -48,6 +50,7 @@ impl ErlEstimator {
     }
 
     // Clears the block count; the figures stay.
+    #[tactic(auto, unfolding(crate::specs::Erl::afterReset))]
     pub fn reset(mut self) -> ErlEstimator
         ensures { result ≡ afterReset self }
     {

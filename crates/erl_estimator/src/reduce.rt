@@ -11,7 +11,7 @@ use aec3_common::larger;
 use aec3_common::spectra::part;
 
 // The first converged channel, or that there is none.
-#[derive(Drop)]
+#[derive(Clone, Copy)]
 pub enum FirstConverged {
     Channel(usize),
     Nothing,

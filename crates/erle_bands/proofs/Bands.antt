@@ -1,6 +1,6 @@
--- Loops over bands 1 to 63 that change some of them, and choices by a new ratio and by low energy.
-use mathlib.Core.Path.{◌≡◌, refl, sym, ◌∙◌}
-use mathlib.Core.Bool.{Bool, true, false, cond, not, ◌&&◌, false≢true}
+-- Loops over bands 1 to 63 that change some of them.
+use mathlib.Core.Path.{◌≡◌, refl, ◌∙◌}
+use mathlib.Core.Bool.{Bool, true, false, cond, ◌&&◌}
 use mathlib.Core.List.{List}
 use Prim.Native.Nat.{ℕ, ◌≤◌}
 use lib.ListN.{length, get_or}
@@ -24,14 +24,3 @@ stored-where {d = d} test f {xs = xs} s h =
 -- a list of 65 is the table of its entries
 pub bands-stay : {A : Type 0} (d : A) (xs : List A) → length xs ≡ 65 → xs ≡ tab 65 (λ k. get_or xs k d)
 bands-stay d xs long = tab-is 65 d (λ k. get_or xs k d) xs long (λ k h. refl)
-
--- a new ratio without low energy, and anything else
-pub onset-new : {A : Type 0} (some low : Bool) (new old : A) → some && not low ≡ true → new ≡ cond some (cond low old new) old
-onset-new true true new old e = absurd (false≢true e)
-onset-new true false new old e = refl
-onset-new false low new old e = absurd (false≢true e)
-
-pub onset-old : {A : Type 0} (some low : Bool) (new old : A) → some && not low ≡ false → old ≡ cond some (cond low old new) old
-onset-old true true new old e = refl
-onset-old true false new old e = absurd (false≢true (sym e))
-onset-old false low new old e = refl

@@ -12,6 +12,7 @@ const BLOCKS_FOR_ONSET_DETECTION: i32 = 250;
 const BLOCKS_OF_DECAY: i32 = 150;
 
 // A held sum with a power added.
+#[tactic(auto, unfolding(crate::specs::Band::sumWith))]
 pub fn sum_with(sum: f32, power: f32, anew: bool) -> f32
     ensures { result ≡ sumWith anew sum power }
 {
@@ -19,6 +20,7 @@ pub fn sum_with(sum: f32, power: f32, anew: bool) -> f32
 }
 
 // Low energy noted, before or now.
+#[tactic(auto, unfolding(crate::specs::Band::lowWith))]
 pub fn low_with(low: bool, x2: f32, anew: bool) -> bool
     ensures { result ≡ lowWith anew low x2 }
 {
@@ -41,6 +43,7 @@ fn share(new_erle: f32, low_render_energy: bool, erle: f32) -> f32
 }
 
 // A stream's value with a new ratio.
+#[tactic(auto, unfolding(crate::specs::Band::streamMoved))]
 fn update_erle_band(
     erle: f32,
     new_erle: f32,
@@ -80,6 +83,7 @@ fn onset_by(e2: f32, low_render_energy: bool) -> bool
 }
 
 // Whether it waits for an onset still.
+#[tactic(auto, unfolding(crate::specs::Band::waitsLearnt))]
 pub fn wait_by(waits: bool, e2: f32, low_render_energy: bool) -> bool
     ensures { result ≡ cond (hasRatio e2) (waitsLearnt low_render_energy waits) waits }
 {
@@ -91,6 +95,7 @@ pub fn wait_by(waits: bool, e2: f32, low_render_energy: bool) -> bool
 }
 
 // Its hold, which begins again there.
+#[tactic(auto, unfolding(crate::specs::Band::holdLearnt))]
 pub fn hold_by(hold: i32, e2: f32, low_render_energy: bool) -> i32
     ensures { result ≡ cond (hasRatio e2) (holdLearnt low_render_energy hold) hold }
 {
@@ -102,6 +107,7 @@ pub fn hold_by(hold: i32, e2: f32, low_render_energy: bool) -> i32
 }
 
 // A hold one block later.
+#[tactic(auto, unfolding(crate::specs::Band::holdLess))]
 pub fn hold_less(hold: i32) -> i32
     ensures { result ≡ holdLess hold }
 {
@@ -110,6 +116,7 @@ pub fn hold_less(hold: i32) -> i32
 }
 
 // A compensated value that decays towards the onset value.
+#[tactic(auto, unfolding(crate::specs::Band::decayed))]
 fn decayed(min_erle: f32, onset: f32, erle: f32) -> f32
     ensures { result ≡ Band·decayed min_erle onset erle }
 {
@@ -121,6 +128,7 @@ fn decayed(min_erle: f32, onset: f32, erle: f32) -> f32
 }
 
 // The compensated value beside the hold after the block.
+#[tactic(auto, unfolding(crate::specs::Band::compensatedBeside))]
 pub fn compensated_beside(min_erle: f32, hold: i32, onset: f32, erle: f32) -> f32
     ensures { result ≡ compensatedBeside min_erle hold onset erle }
 {
@@ -132,6 +140,7 @@ pub fn compensated_beside(min_erle: f32, hold: i32, onset: f32, erle: f32) -> f3
 }
 
 // Whether the band waits, beside the hold after the block.
+#[tactic(auto, unfolding(crate::specs::Band::waitsBeside))]
 pub fn wait_beside(hold: i32, waits: bool) -> bool
     ensures { result ≡ waitsBeside hold waits }
 {

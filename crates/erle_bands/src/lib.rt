@@ -1,4 +1,6 @@
 // The bands of the subband estimator: the rules of one band, and the loops that apply them to a table of 65.
+#![tactic(auto)]
+
 mod band;
 pub mod onsets;
 pub mod streams;

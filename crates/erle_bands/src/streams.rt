@@ -8,7 +8,7 @@ use crate::band::stream_by;
 use filter_sections::max_erle;
 
 // The limits of a stream: the minimum, and the maxima of the lower and the upper bands.
-#[derive(Drop)]
+#[derive(Clone, Copy)]
 pub struct Limits {
     pub min: f32,
     pub max_l: f32,

@@ -9,6 +9,7 @@ use aec3_common::refusal::ACCEPTED;
 use aec3_common::settings::ErleSettings;
 
 // The channels whose records number 20 looks at: none where the settings break 1, 2 or 3.
+#[tactic(auto, unfolding(crate::specs::Steps::judgedChannels))]
 pub fn judged_channels(settings: ErleSettings) -> usize
     ensures { result ≡ judgedChannels settings }
 {

@@ -1,4 +1,6 @@
 // The whole ERLE estimator: subband, signal-dependent and fullband under one set of settings and one block count.
+#![tactic(auto)]
+
 mod judge;
 mod moves;
 mod parts;
@@ -30,7 +32,7 @@ use subband_erle_estimator::SubbandChannel;
 
 // The settings once, the startup count, the blocks counted since the latest reset that came with a change of delay, and four records of
 // each part.
-#[derive(Drop)]
+#[derive(Clone, Copy)]
 pub struct ErleEstimator {
     pub settings: ErleSettings,
     pub startup_phase_length_blocks: u32,
@@ -42,13 +44,14 @@ pub struct ErleEstimator {
 }
 
 // The next state and 0, or the state as it was and the number under which the call is turned away.
-#[derive(Drop)]
+#[derive(Clone, Copy)]
 pub struct ErleAnswer {
     pub state: ErleEstimator,
     pub refused: u32,
 }
 
 // Every part as a start leaves it, with a block count. It judges nothing.
+#[tactic(auto, unfolding(crate::specs::Erle::startedWith, subband_erle_estimator::specs::Subband::started, signal_dependent_erle_estimator::specs::SignalDependent::started, fullband_erle_estimator::specs::FullBand::started, aec3_common::specs::Lists::tab))]
 pub fn started_with(startup: u32, blocks: u32, settings: ErleSettings) -> ErleEstimator
     ensures { result ≡ startedWith startup blocks settings }
 {
@@ -72,6 +75,7 @@ pub fn started_with(startup: u32, blocks: u32, settings: ErleSettings) -> ErleEs
 }
 
 // The blocks that stand counted after a reset.
+#[tactic(auto, unfolding(crate::specs::Erle::blocksKept))]
 fn blocks_kept(blocks: u32, delay_change: bool) -> u32
     ensures { result ≡ blocksKept delay_change blocks }
 {
@@ -116,6 +120,7 @@ impl ErleEstimator {
     }
 
     // Every part as after a start; the count is cleared only if the delay changed. It judges nothing.
+    #[tactic(auto, unfolding(crate::specs::Erle::afterReset))]
     pub fn restarted(self, delay_change: bool) -> ErleEstimator
         ensures { result ≡ afterReset self delay_change }
     {
@@ -124,6 +129,7 @@ impl ErleEstimator {
     }
 
     // The same, and 20 is turned away.
+    #[tactic(auto, unfolding(crate::specs::Erle::resetAnswer, crate::specs::Erle::stateRefusal))]
     pub fn reset(self, delay_change: bool) -> ErleAnswer
         ensures { result ≡ resetAnswer self delay_change }
     {
@@ -256,6 +262,7 @@ impl ErleEstimator {
     }
 
     // The fullband log2 figure. 20 is turned away.
+    #[tactic(auto, unfolding(crate::specs::Erle::log2Answer, crate::specs::Erle::stateRefusal, fullband_erle_estimator::specs::FullBand::log2Answer, fullband_erle_estimator::specs::FullBand::stateRefusal))]
     pub fn fullband_erle_log2(self) -> FullBandFigure
         ensures { result ≡ log2Answer self }
     {
@@ -268,6 +275,7 @@ impl ErleEstimator {
     }
 
     // The same in decibels.
+    #[tactic(auto, unfolding(crate::specs::Erle::decibelAnswer, crate::specs::Erle::stateRefusal, fullband_erle_estimator::specs::FullBand::decibelAnswer, fullband_erle_estimator::specs::FullBand::stateRefusal))]
     pub fn fullband_erle_db(self) -> FullBandFigure
         ensures { result ≡ decibelAnswer self }
     {
@@ -280,6 +288,7 @@ impl ErleEstimator {
     }
 
     // The quality of a channel's linear filter. 20 is turned away.
+    #[tactic(auto, unfolding(crate::specs::Erle::qualityAnswer, crate::specs::Erle::stateRefusal, fullband_erle_estimator::specs::FullBand::qualityAnswer, fullband_erle_estimator::specs::FullBand::stateRefusal))]
     pub fn linear_quality_estimate(self, ch: usize) -> QualityAnswer
         ensures { result ≡ qualityAnswer self ch }
     {

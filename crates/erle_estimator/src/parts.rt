@@ -49,6 +49,7 @@ pub fn fullband_settings(settings: ErleSettings) -> FullBandSettings
 }
 
 // Settings without a channel, which 20 turns away.
+#[tactic(auto, unfolding(crate::specs::Erle::refusedSettings, aec3_common::specs::Binary32::zero32))]
 pub fn refused_settings() -> ErleSettings
     ensures { result ≡ refusedSettings }
 {

@@ -9,7 +9,7 @@ use subband_erle_estimator::SubbandChannel;
 
 // A channel's figures: the plain, the onset-compensated and the uncapped ERLE of each band, and the onset values. With onset detection
 // off the compensated stream is the plain one; with two or more sections the uncapped one is the plain one.
-#[derive(Drop)]
+#[derive(Clone, Copy)]
 pub struct ErleStreams {
     pub plain: [f32; 65],
     pub compensated: [f32; 65],
@@ -18,6 +18,7 @@ pub struct ErleStreams {
 }
 
 // The compensated stream as `erle` answers it, of the two that a record holds.
+#[tactic(auto, unfolding(aec3_common::specs::Streams::erleOf))]
 fn compensated_shown(plain: [f32; 65], held: [f32; 65], onset_detection: bool) -> [f32; 65]
     ensures { result ≡ erleOf plain held true onset_detection }
 {
@@ -25,6 +26,7 @@ fn compensated_shown(plain: [f32; 65], held: [f32; 65], onset_detection: bool) -
 }
 
 // A channel's figures, of its two records.
+#[tactic(auto, unfolding(crate::specs::Erle::streamsShown, crate::specs::Erle::erleShown, crate::specs::Erle::sectioned, aec3_common::specs::Streams::erleOf))]
 pub fn erle_streams(
     settings: ErleSettings,
     subband: SubbandChannel,

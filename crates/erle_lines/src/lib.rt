@@ -1,6 +1,8 @@
 // The figures of the whole ERLE estimator, for the programs that replay a script of library calls: the streams of each
 // channel, and a line of the fullband figures. A channel gives 2,370 bytes, the last line at most 59. No function asks
 // anything of its caller.
+#![tactic(auto)]
+
 use channel_lines::{FullReadings, put_full_line};
 use erle_estimator::{ErleEstimator, ErleSettings, ErleStreams, erle_streams};
 use script::put_array_line;

@@ -1,6 +1,8 @@
 // What the ERLE estimator holds inside, for the programs that replay a script of library calls: its block count, and for
 // each channel what the records of its three parts have besides the figures. A channel gives at most 3,988 bytes, the line
 // of the count 17. No function asks anything of its caller.
+#![tactic(auto)]
+
 ghost use Rattle.std.specs.Prelude.{◌≤◌};
 
 use channel_lines::{put_fullband_line, put_subband_state};

@@ -1,5 +1,5 @@
 -- What the loops over sections have done at each turn.
-use mathlib.Core.Path.{◌≡◌, refl, sym, ap, ◌∙◌, subst}
+use mathlib.Core.Path.{◌≡◌, refl, sym, ap, ◌∙◌}
 use mathlib.Core.Bool.{Bool, true, false, cond}
 use mathlib.Core.List.{List, [], ◌∷◌}
 use Prim.Native.Nat.{ℕ, zero, suc, ◌+◌, ◌-◌, ◌*◌, ◌/◌, ◌%◌, ◌≤◌, ◌<◌}
@@ -11,7 +11,7 @@ use lib.Dec.{ltb, eqb}
 use lib.ListN.{length, get_or, take, drop, set, get_or-eq_default}
 use lib.Seq.{get_or-set_same, get_or-take, get_or-drop, drop-drop, length-take-le}
 use Rattle.aec3_common.proofs.Tables.{length-tab, Stored, stored-none, stored_more}
-use Rattle.filter_sections.specs.Sections.{evenly, takes, doubling, sectionSizes, runningSums, padded}
+use Rattle.filter_sections.specs.Sections.{takes, doubling, sectionSizes, runningSums, padded}
 use Rattle.filter_sections.specs.Steps.{Doubled}
 use Rattle.filter_sections.proofs.Sizes.{padded-is, padded-at, takes-many, takes-below, doubling-goes-on, doubling-ends, length-doubling, evenly-at, length-sums, sums_first, sums_next}
 

@@ -1,19 +1,17 @@
 -- Laws of section sizes and boundaries.
-use mathlib.Core.Path.{◌≡◌, refl, sym, ap, ◌∙◌, subst}
-use mathlib.Core.Bool.{Bool, true, false, cond, ◌&&◌, false≢true}
+use mathlib.Core.Path.{◌≡◌, refl, sym, ap, ◌∙◌}
+use mathlib.Core.Bool.{Bool, true, false, cond}
 use mathlib.Core.List.{List, [], ◌∷◌}
 use Prim.Native.Nat.{ℕ, zero, suc, ◌+◌, ◌-◌, ◌*◌, ◌/◌, ◌%◌, ◌≤◌, ◌<◌}
-use native.Mathlib.Nat.{le_of_suc-le-suc, not-suc-le-zero, div-add-mod', le-mul_of_pos_right, lt_of_le_of_lt, le_trans}
-use native.Mathlib.Numerals.{add-one}
+use native.Mathlib.Nat.{le_of_suc-le-suc, not-suc-le-zero, div-add-mod', le-mul_of_pos_right, lt_of_le_of_lt}
 use native.Mathlib.Omega.{arith}
 use borrow.Author.Tests.{ltb-true, ltb-false}
 use lib.Dec.{ltb, eqb}
-use lib.ListN.{length, get_or, take, drop, set, get_or-eq_default}
-use lib.Seq.{ext_get_or, get_or-take, get_or-drop, drop-drop, length-take-le}
-use Rattle.aec3_common.specs.Lists.{tab}
+use lib.ListN.{length, get_or, take, get_or-eq_default}
+use lib.Seq.{ext_get_or, get_or-take, length-take-le}
 use Rattle.aec3_common.proofs.Choices.{and_left, and_right}
-use Rattle.aec3_common.proofs.Tables.{length-tab, getD-tab, tab-is, Stored, stored-none, stored_more}
-use Rattle.filter_sections.specs.Sections.{evenly, takes, doubling, sectionSizes, runningSums, padded}
+use Rattle.aec3_common.proofs.Tables.{length-tab, getD-tab, tab-is}
+use Rattle.filter_sections.specs.Sections.{evenly, takes, doubling, runningSums, padded}
 
 -- ---- tables with zeros behind a list
 

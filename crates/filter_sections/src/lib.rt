@@ -1,4 +1,6 @@
 // The sections of the adaptive filter, the subbands, and the bands' maxima.
+#![tactic(auto)]
+
 pub mod sections;
 pub mod subbands;
 

@@ -8,14 +8,14 @@ use aec3_common::settings::{headroom_blocks, sections_ok};
 
 // The boundaries of up to eight sections, zeros behind them, and 0; or zeros and the number under which the settings
 // are turned away.
-#[derive(Drop)]
+#[derive(Clone, Copy)]
 pub struct Sections {
     pub boundaries: [usize; 9],
     pub refused: u32,
 }
 
 // The sizes so far, how many there are, and the blocks left for the sections left to share evenly.
-#[derive(Drop)]
+#[derive(Clone, Copy)]
 struct Doubled {
     sizes: [usize; 8],
     taken: usize,

@@ -3,7 +3,7 @@ ghost use Rattle.std.specs.Prelude.{◌≡◌, cond, ◌≤◌, leb};
 ghost use Rattle.filter_sections.specs.Subbands.{subbandBegin, subbandBands, bandToSubband, maxErle};
 
 // The bands that are summed in a subband: from begin on, below end.
-#[derive(Drop)]
+#[derive(Clone, Copy)]
 pub struct SubbandBands {
     pub begin: usize,
     pub end: usize,
@@ -46,6 +46,7 @@ fn reaches(begin: usize, band: usize) -> usize
 }
 
 // The subband that a band maps to.
+#[tactic(auto, unfolding(crate::specs::Subbands::bandToSubband))]
 pub fn band_to_subband(band: usize) -> usize
     ensures { result ≡ bandToSubband band }
 {
@@ -53,6 +54,7 @@ pub fn band_to_subband(band: usize) -> usize
 }
 
 // The greatest ERLE of a band.
+#[tactic(auto, unfolding(crate::specs::Subbands::maxErle))]
 pub fn max_erle(max_l: f32, max_h: f32, band: usize) -> f32
     ensures { result ≡ maxErle max_l max_h band }
 {

@@ -10,14 +10,14 @@ use aec3_common::{larger, moved};
 
 const BLOCKS_TO_HOLD_ERLE: i32 = 100;
 
-#[derive(Drop)]
+#[derive(Clone, Copy)]
 pub struct FullBandChannel {
     pub instantaneous_erle: ErleInstantaneous,
     pub erle_time_domain_log2: f32,
     pub hold_counter_time_domain: i32,
 }
 
-#[derive(Drop)]
+#[derive(Clone, Copy)]
 struct PowerSums {
     y2: f32,
     e2: f32,
@@ -42,6 +42,7 @@ fn power_sums(y2: &[f32], e2: &[f32]) -> PowerSums
 }
 
 impl FullBandChannel {
+    #[tactic(auto, unfolding(crate::specs::Channel::freshChannel))]
     pub fn new(min_erle_log2: f32) -> FullBandChannel
         ensures { result ≡ freshChannel min_erle_log2 }
     {
@@ -53,6 +54,7 @@ impl FullBandChannel {
     }
 
     // Whether number 20 lets the record pass.
+    #[tactic(auto, unfolding(crate::specs::Channel::channelOk))]
     pub fn ok(self) -> bool
         ensures { result ≡ channelOk self }
     {

@@ -10,13 +10,13 @@ pub const EPSILON: f32 = 0.001;
 pub const POINTS_TO_ACCUMULATE: u32 = 6;
 
 // A number that may not be there.
-#[derive(Drop)]
+#[derive(Clone, Copy)]
 pub enum OptionalNumber {
     Absent,
     Number(f32),
 }
 
-#[derive(Drop)]
+#[derive(Clone, Copy)]
 pub struct ErleInstantaneous {
     pub erle_log2: OptionalNumber,
     pub inst_quality_estimate: f32,
@@ -44,6 +44,7 @@ fn least_with(value: f32, least: f32) -> f32
 }
 
 // How far a value stands between the extremes, or outside them.
+#[tactic(auto, unfolding(crate::specs::Instantaneous::newQuality))]
 fn new_quality(least: f32, greatest: f32, value: f32) -> f32
     ensures { result ≡ newQuality least greatest value }
 {
@@ -75,6 +76,7 @@ fn lowered(to_one: bool, quality: f32) -> f32
     }
 }
 
+#[tactic(auto, unfolding(crate::specs::Instantaneous::clampedQuality))]
 fn clamped_quality(to_zero: bool, to_one: bool, quality: f32) -> f32
     ensures { result ≡ clampedQuality to_zero to_one quality }
 {
@@ -101,6 +103,7 @@ impl ErleInstantaneous {
     }
 
     // The extremes stay.
+    #[tactic(auto, unfolding(crate::specs::Instantaneous::accumulatorsReset, crate::specs::Instantaneous::cleared))]
     pub fn reset_accumulators(self) -> ErleInstantaneous
         ensures { result ≡ accumulatorsReset self }
     {
@@ -146,6 +149,7 @@ impl ErleInstantaneous {
     }
 
     // The same with other sums and another count of points.
+    #[tactic(auto, unfolding(crate::specs::Instantaneous::holding))]
     fn holding(mut self, y2: f32, e2: f32, points: u32) -> ErleInstantaneous
         ensures { result ≡ Instantaneous·holding y2 e2 points self }
     {
@@ -156,6 +160,7 @@ impl ErleInstantaneous {
     }
 
     // Extremes and quality estimate moved by a new log2 value.
+    #[tactic(auto, unfolding(crate::specs::Instantaneous::learnt))]
     pub(crate) fn learnt(self, value: f32) -> ErleInstantaneous
         ensures { result ≡ Instantaneous·learnt value self }
     {

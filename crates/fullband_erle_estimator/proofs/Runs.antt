@@ -8,7 +8,7 @@ use borrow.Author.Tests.{eqb-true}
 use lib.Dec.{T, eqb}
 use lib.Ieee.{Float, binary32, add, le}
 use lib.ListN.{length, get_or}
-use Rattle.aec3_common.specs.Binary32.{greatestValue, within, valuesOk}
+use Rattle.aec3_common.specs.Binary32.{smaller, greatestValue, within, valuesOk}
 use Rattle.aec3_common.specs.Calls.{Call, update, reset}
 use Rattle.aec3_common.specs.Lists.{every}
 use Rattle.aec3_common.specs.Refusal.{accepted, badState}
@@ -131,7 +131,7 @@ least-from-not-below :
 unfolding leastFrom every
 least-from-not-below min x [] p all = p
 least-from-not-below min x (c ∷ cs) p all =
-    least-from-not-below min _ cs
+    least-from-not-below min (smaller x c.erle_time_domain_log2) cs
     (smaller-not-below min x c.erle_time_domain_log2 p (and_left (notBelow min c) _ all))
     (and_right (notBelow min c) _ all)
 
@@ -140,7 +140,7 @@ least-not-below :
 unfolding leastOr every
 least-not-below min none [] p all = p
 least-not-below min none (c ∷ cs) p all =
-    least-from-not-below min _ cs (and_left (notBelow min c) _ all) (and_right (notBelow min c) _ all)
+    least-from-not-below min c.erle_time_domain_log2 cs (and_left (notBelow min c) _ all) (and_right (notBelow min c) _ all)
 
 pub figures-not-below-minimum : (g : FullBandSettings) → (startAnswer g).refused ≡ accepted → FiguresNotBelowMinimum g (startAnswer g).state
 unfolding FiguresNotBelowMinimum startAnswer fullbandLog2

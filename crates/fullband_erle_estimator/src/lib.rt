@@ -1,4 +1,6 @@
 // Fullband ERLE: one log2 figure over all bands and channels, in decibels too, and the quality of each channel's linear filter.
+#![tactic(auto)]
+
 mod settings;
 
 ghost use Rattle.std.specs.Prelude.{◌≡◌, true, not, ◌≤◌, take};
@@ -21,34 +23,35 @@ use settings::refused_settings;
 // What turns a log2 figure into decibels.
 const DECIBEL_FACTOR: f32 = 3.0;
 
-#[derive(Drop)]
+#[derive(Clone, Copy)]
 pub struct FullBandErleEstimator {
     pub settings: FullBandSettings,
     pub channels: [FullBandChannel; 4],
 }
 
 // The next state and 0, or the state as it was and the number under which the call is turned away.
-#[derive(Drop)]
+#[derive(Clone, Copy)]
 pub struct FullBandAnswer {
     pub state: FullBandErleEstimator,
     pub refused: u32,
 }
 
 // A figure, or the number under which its reading is turned away.
-#[derive(Drop)]
+#[derive(Clone, Copy)]
 pub enum FullBandFigure {
     Value(f32),
     Refused(u32),
 }
 
 // A channel's quality and 0; or absent and the number under which its reading is turned away.
-#[derive(Drop)]
+#[derive(Clone, Copy)]
 pub struct QualityAnswer {
     pub quality: OptionalNumber,
     pub refused: u32,
 }
 
 // All four records as a reset fills them.
+#[tactic(auto, unfolding(crate::specs::FullBand::started, aec3_common::specs::Lists::tab))]
 fn started(settings: FullBandSettings) -> FullBandErleEstimator
     ensures { result ≡ FullBand·started settings }
 {
@@ -57,6 +60,7 @@ fn started(settings: FullBandSettings) -> FullBandErleEstimator
     FullBandErleEstimator { settings, channels }
 }
 
+#[tactic(auto, unfolding(crate::specs::FullBand::decibels))]
 fn decibels(log2: f32) -> f32
     ensures { result ≡ FullBand·decibels log2 }
 {
@@ -76,6 +80,7 @@ fn none_converged(converged_filters: &[bool]) -> bool
 }
 
 // Whether the render sum is above its threshold. It is not added up where no channel would look at it.
+#[tactic(auto, unfolding(crate::specs::Steps::loudFor))]
 pub fn is_loud(converged_filters: &[bool], x2: &[f32]) -> bool
     ensures { result ≡ loudFor converged_filters.now x2.now }
 {
@@ -119,6 +124,7 @@ impl FullBandErleEstimator {
     }
 
     // Whether number 20 lets the state pass.
+    #[tactic(auto, unfolding(crate::specs::FullBand::stateOk))]
     fn ok(self) -> bool
         ensures { result ≡ stateOk self }
     {
@@ -131,6 +137,7 @@ impl FullBandErleEstimator {
     }
 
     // Every record as after a start. 20 is turned away.
+    #[tactic(auto, unfolding(crate::specs::FullBand::resetAnswer, crate::specs::FullBand::stateRefusal))]
     pub fn reset(self) -> FullBandAnswer
         ensures { result ≡ resetAnswer self }
     {
@@ -204,6 +211,7 @@ impl FullBandErleEstimator {
     }
 
     // The fullband log2 figure. 20 is turned away.
+    #[tactic(auto, unfolding(crate::specs::FullBand::log2Answer, crate::specs::FullBand::stateRefusal))]
     pub fn fullband_erle_log2(self) -> FullBandFigure
         ensures { result ≡ log2Answer self }
     {
@@ -215,6 +223,7 @@ impl FullBandErleEstimator {
     }
 
     // The same in decibels.
+    #[tactic(auto, unfolding(crate::specs::FullBand::decibelAnswer, crate::specs::FullBand::stateRefusal))]
     pub fn fullband_erle_db(self) -> FullBandFigure
         ensures { result ≡ decibelAnswer self }
     {
@@ -226,6 +235,7 @@ impl FullBandErleEstimator {
     }
 
     // The quality of a channel's linear filter; absent too for a channel that the state does not have. 20 is turned away.
+    #[tactic(auto, unfolding(crate::specs::FullBand::qualityAnswer, crate::specs::FullBand::stateRefusal))]
     pub fn linear_quality_estimate(self, channel: usize) -> QualityAnswer
         ensures { result ≡ qualityAnswer self channel }
     {

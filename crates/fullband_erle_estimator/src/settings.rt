@@ -6,7 +6,7 @@ use aec3_common::log2::approx_log2;
 use aec3_common::settings::limits_and_channels_refusal;
 use fullband_channel::instantaneous::EPSILON;
 
-#[derive(Drop)]
+#[derive(Clone, Copy)]
 pub struct FullBandSettings {
     pub min: f32,
     pub max_l: f32,
@@ -17,6 +17,7 @@ pub struct FullBandSettings {
 }
 
 // What a refused start answers with: number 20 turns it away.
+#[tactic(auto, unfolding(crate::specs::FullBand::refusedSettings))]
 pub fn refused_settings() -> FullBandSettings
     ensures { result ≡ refusedSettings }
 {
@@ -32,6 +33,7 @@ pub fn refused_settings() -> FullBandSettings
 
 impl FullBandSettings {
     // The first of 1 and 2 that the settings break, or 0.
+    #[tactic(auto, unfolding(crate::specs::FullBand::settingsRefusal))]
     pub fn refusal(self) -> u32
         ensures { result ≡ settingsRefusal self }
     {
@@ -39,6 +41,7 @@ impl FullBandSettings {
     }
 
     // Log2 of (the minimum plus 0.001).
+    #[tactic(auto, unfolding(crate::specs::FullBand::minLog2))]
     pub fn min_erle_log2(self) -> f32
         ensures { result ≡ minLog2 self }
     {

@@ -7,7 +7,7 @@ use replay_signal::signal_ok;
 use script::Next;
 
 // What the input asks for next: a well-formed call to a leaf or to an estimator, or an end of the run.
-#[derive(Drop)]
+#[derive(Clone, Copy)]
 pub enum Sort {
     Leaf,
     Erl,

@@ -1,4 +1,6 @@
 // Kinds 0110 to 0112: the ERL estimator.
+#![tactic(auto)]
+
 ghost use Rattle.std.specs.Prelude.{◌<◌};
 
 use encoding::{half_at, put_bytes, word_at};
@@ -10,7 +12,7 @@ use script::{
 
 // The estimator of the latest start. Before the first start none stands: calls change the one that lies here, and it is
 // never shown.
-#[derive(Drop)]
+#[derive(Clone, Copy)]
 pub struct ErlStanding {
     pub stands: bool,
     pub erl: ErlEstimator,
@@ -20,7 +22,7 @@ pub struct ErlStanding {
 const LISTS: usize = 22;
 
 // The counts at the head of an update.
-#[derive(Drop)]
+#[derive(Clone, Copy)]
 struct UpdateCounts {
     captures: u32,
     renders: u32,

@@ -1,5 +1,7 @@
 // Kinds 0120 to 0122: the whole ERLE estimator. None stands before the first start and after one that was refused: such a
 // start answers a state without channels.
+#![tactic(auto)]
+
 use encoding::{float_of, half_at, word_at};
 use erle_estimator::{ErleAnswer, ErleEstimator, ErleSettings};
 use erle_lines::put_erle_figures;

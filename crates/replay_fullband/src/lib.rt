@@ -1,5 +1,7 @@
 // Kinds 0150 to 0153: the fullband estimator. None stands before the first start and after one that was refused: such a start
 // answers a state without channels.
+#![tactic(auto)]
+
 mod figures;
 
 use encoding::{float_of, half_at, word_at};

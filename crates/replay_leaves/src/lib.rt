@@ -1,4 +1,6 @@
 // Kinds 0101 to 0103: log2, ring places, section boundaries. Nothing stands from one record to the next.
+#![tactic(auto)]
+
 use aec3_common::{Log2, fast_approx_log2f};
 use encoding::{bits_of, float_of, half_at, put_bytes, put_hex8, word_at};
 use filter_sections::{Sections, section_boundaries};

@@ -5,7 +5,7 @@ use replay_subband::subband_ok;
 use script::Next;
 
 // What the input asks for next: a well-formed call to an estimator, or an end of the run.
-#[derive(Drop)]
+#[derive(Clone, Copy)]
 pub enum Sort {
     Subband,
     Fullband,

@@ -4,7 +4,7 @@ use encoding::put_bytes;
 
 // What a record asks of an estimator. Which kinds ask for it, each sort of estimator says for itself. A record of any other
 // kind is malformed, so that no unknown call is made or shown.
-#[derive(Drop)]
+#[derive(Clone, Copy)]
 pub enum Call {
     Start,
     Update,

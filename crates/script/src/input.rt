@@ -1,12 +1,12 @@
-// The records of the script, read from standard input one after the other: a length in 4 bytes, and as many bytes.
+// The records of the script, read one after the other: a length in 4 bytes, and as many bytes.
 ghost use Rattle.std.specs.Prelude.{◌≡◌, ◌≤◌, length};
 ghost use Rattle.script.specs.Input.{size_of};
 
 use encoding::word_at;
-use libc::STDIN_FILENO;
+use std::io::Read;
 
 // What the input holds next: a record of so many bytes, nothing, or bytes that are no record.
-#[derive(Drop)]
+#[derive(Clone, Copy)]
 pub enum Next {
     Record(usize),
     End,
@@ -20,12 +20,37 @@ pub fn record_buffer() -> [u8; 131072]
     [0; 131072]
 }
 
+// Reads once, to the start of a buffer; how many bytes came. None come at the end of the input, or where the read fails.
+fn read_some<R: Read>(reader: &mut R, buffer: &mut [u8]) -> usize
+    ensures { result ≤ length buffer.new }
+{
+    match reader.read(buffer) {
+        Ok(n) => n,
+        Err(_) => 0,
+    }
+}
+
+// Reads until a buffer is full or no more bytes come; how many came.
+pub fn read_full<R: Read>(reader: &mut R, buffer: &mut [u8]) -> usize
+    ensures { result ≤ length buffer.new }
+{
+    let mut done = 0;
+    while done < buffer.len() {
+        let n = read_some(reader, &mut buffer[done..]);
+        if n == 0 {
+            return done;
+        }
+        done += n;
+    }
+    done
+}
+
 // Reads the next record to the start of a buffer. The shortest has the 2 bytes of its kind.
-pub fn next_record(buffer: &mut [u8]) -> Next
+pub fn next_record<R: Read>(reader: &mut R, buffer: &mut [u8]) -> Next
     ensures { size_of result ≤ length buffer.new }
 {
     let mut head = [0u8; 4];
-    let got = io::read_full(STDIN_FILENO, &mut head);
+    let got = read_full(reader, &mut head);
     if got == 0 {
         return Next::End;
     }
@@ -36,7 +61,7 @@ pub fn next_record(buffer: &mut [u8]) -> Next
     if buffer.len() < n {
         return Next::Malformed;
     }
-    let read = io::read_full(STDIN_FILENO, &mut buffer[0..n]);
+    let read = read_full(reader, &mut buffer[0..n]);
     if read < n {
         return Next::Malformed;
     }

@@ -1,5 +1,5 @@
 -- The constant that stands as bits, beside its number in document 01.
-use Rattle.std.specs.Prelude.{◌≡◌, Float}
+use Rattle.std.specs.Prelude.{◌≡◌}
 use Rattle.std.specs.Float.{binary32}
 use Rattle.std.specs.Float.Ieee.{div}
 use Rattle.aec3_common.specs.Log2.{rounded}

@@ -1,4 +1,6 @@
 // The echo of each section of the adaptive filter, and the section that is active in each band.
+#![tactic(auto)]
+
 mod active;
 mod channels;
 mod echoes;
@@ -9,7 +11,7 @@ pub use channels::all_active_sections;
 
 // How the ring of render spectra is lent: so many slots of so many channels, 65 numbers each, slot by slot and channel by channel;
 // position is the read place, one of the slots.
-#[derive(Drop)]
+#[derive(Clone, Copy)]
 pub struct RenderRing {
     pub slots: usize,
     pub channels: usize,

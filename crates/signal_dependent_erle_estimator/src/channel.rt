@@ -9,7 +9,7 @@ use correction_factors::{
     CorrectionFactors, band_factors, copy_last, correct_stream, subband_sums,
 };
 
-#[derive(Drop)]
+#[derive(Clone, Copy)]
 pub struct SignalDependentChannel {
     pub erle: [f32; 65],
     pub erle_onset_compensated: [f32; 65],
@@ -30,6 +30,7 @@ fn all_below(active: &[u32; 65], sections: u32) -> bool
 }
 
 impl SignalDependentChannel {
+    #[tactic(auto, unfolding(crate::specs::Channel::freshChannel, aec3_common::specs::Lists::tab))]
     pub fn new(min: f32) -> SignalDependentChannel
         ensures { result ≡ freshChannel min }
     {
@@ -42,6 +43,7 @@ impl SignalDependentChannel {
     }
 
     // Whether number 20 lets the record pass.
+    #[tactic(auto, unfolding(crate::specs::SignalDependent::channelOk))]
     pub fn ok(self, sections: u32) -> bool
         ensures { result ≡ channelOk sections self }
     {
@@ -50,6 +52,7 @@ impl SignalDependentChannel {
     }
 
     // What the channel has learnt after an update: where it is not converged, nothing new.
+    #[tactic(auto, unfolding(crate::specs::Channel::learntIf))]
     fn learnt(
         self,
         settings: SignalDependentSettings,

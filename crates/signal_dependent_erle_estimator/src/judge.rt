@@ -28,6 +28,7 @@ fn slots_reach(slots: usize, headroom: usize) -> bool
 }
 
 // The first of 2, 4 and 9 that a ring breaks, or 0.
+#[tactic(auto, unfolding(crate::specs::SignalDependent::ringRefusal))]
 pub fn ring_refusal(ring: RenderRing, headroom: usize) -> u32
     ensures { result ≡ ringRefusal headroom ring }
 {
@@ -89,6 +90,7 @@ fn spectra_ok(ring: RenderRing, spectra: &[f32]) -> bool
 }
 
 // Number 5, of all that is lent.
+#[tactic(auto, unfolding(crate::specs::SignalDependent::allLengthsOk, crate::specs::SignalDependent::lentLengthsOk))]
 fn all_lengths_ok(
     filter_length: usize,
     channels: usize,
@@ -133,6 +135,7 @@ fn all_lent_values_ok(
 }
 
 // The first of 20, 21, 2, 4, 9, 5 and 6, or 0, where it is known whether number 20 lets the state pass.
+#[tactic(auto, unfolding(crate::specs::SignalDependent::refusalOf, crate::specs::SignalDependent::allValuesOk, crate::specs::SignalDependent::lentValuesOk))]
 pub fn update_refusal(
     state_ok: bool,
     settings: SignalDependentSettings,

@@ -1,4 +1,6 @@
 // Signal-dependent ERLE: the subband estimator's streams, corrected by how far into the filter the echo reaches.
+#![tactic(auto)]
+
 mod channel;
 pub mod judge;
 mod settings;
@@ -24,7 +26,7 @@ use section_echoes::all_active_sections;
 pub use settings::SignalDependentSettings;
 use settings::refused_settings;
 
-#[derive(Drop)]
+#[derive(Clone, Copy)]
 pub struct SignalDependentErleEstimator {
     pub settings: SignalDependentSettings,
     pub section_boundaries_blocks: [usize; 9],
@@ -32,13 +34,14 @@ pub struct SignalDependentErleEstimator {
 }
 
 // The next state and 0, or the state as it was and the number under which the call is turned away.
-#[derive(Drop)]
+#[derive(Clone, Copy)]
 pub struct SignalDependentAnswer {
     pub state: SignalDependentErleEstimator,
     pub refused: u32,
 }
 
 // The boundaries that settings give.
+#[tactic(auto, unfolding(crate::specs::SignalDependent::boundariesOf))]
 pub fn boundaries_of(settings: SignalDependentSettings) -> [usize; 9]
     ensures { result ≡ boundariesOf settings }
 {
@@ -75,6 +78,7 @@ pub fn settings_pass(settings: SignalDependentSettings, held: &[usize; 9]) -> bo
 }
 
 // All four records as a reset fills them.
+#[tactic(auto, unfolding(crate::specs::SignalDependent::started, aec3_common::specs::Lists::tab))]
 fn started(settings: SignalDependentSettings) -> SignalDependentErleEstimator
     ensures { result ≡ SignalDependent·started settings }
 {
@@ -121,6 +125,7 @@ impl SignalDependentErleEstimator {
     }
 
     // Whether number 20 lets the state pass.
+    #[tactic(auto, unfolding(crate::specs::SignalDependent::stateOk))]
     fn ok(self) -> bool
         ensures { result ≡ stateOk self }
     {
@@ -133,6 +138,7 @@ impl SignalDependentErleEstimator {
     }
 
     // Every record as after a start. 20 is turned away.
+    #[tactic(auto, unfolding(crate::specs::SignalDependent::resetAnswer, crate::specs::SignalDependent::stateRefusal))]
     pub fn reset(self) -> SignalDependentAnswer
         ensures { result ≡ resetAnswer self }
     {

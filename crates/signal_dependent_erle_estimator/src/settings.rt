@@ -5,7 +5,7 @@ ghost use Rattle.signal_dependent_erle_estimator.specs.SignalDependent.{settings
 use aec3_common::settings::sectioned_settings_refusal;
 use correction_factors::ErleLimits;
 
-#[derive(Drop)]
+#[derive(Clone, Copy)]
 pub struct SignalDependentSettings {
     pub min: f32,
     pub max_l: f32,
@@ -18,6 +18,7 @@ pub struct SignalDependentSettings {
 }
 
 // Settings without a channel, which 20 turns away.
+#[tactic(auto, unfolding(crate::specs::SignalDependent::refusedSettings, aec3_common::specs::Binary32::zero32))]
 pub fn refused_settings() -> SignalDependentSettings
     ensures { result ≡ refusedSettings }
 {
@@ -35,6 +36,7 @@ pub fn refused_settings() -> SignalDependentSettings
 
 impl SignalDependentSettings {
     // The first of 1, 2 and 3 that the settings break, or 0.
+    #[tactic(auto, unfolding(crate::specs::SignalDependent::settingsRefusal))]
     pub fn refusal(self) -> u32
         ensures { result ≡ settingsRefusal self }
     {

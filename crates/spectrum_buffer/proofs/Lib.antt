@@ -1,4 +1,3 @@
-mod Signed
 mod Refusals
 pub mod Walks
 pub mod Cases

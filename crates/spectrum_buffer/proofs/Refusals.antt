@@ -1,26 +1,14 @@
 -- What the ring's refusals tell.
 use mathlib.Core.Path.{◌≡◌, refl}
-use mathlib.Core.Bool.{Bool, true, false, cond}
+use mathlib.Core.Bool.{Bool, true, false}
 use Prim.Native.Nat.{ℕ, ◌≤◌, ◌<◌}
 use native.Mathlib.Omega.{arith}
-use lib.Dec.{eqb}
 use lib.IntN.{ℤ, nat_abs}
 use borrow.Author.Tests.{ltb-true, leb-true}
 use Rattle.aec3_common.specs.Refusal.{unless, accepted, badRing, badPlace, badOffset}
 use Rattle.aec3_common.proofs.Choices.{passed}
 use Rattle.aec3_common.proofs.Ranges.{to-hi}
 use Rattle.spectrum_buffer.specs.Ring.{maxSlots, slotsOk, placeOk, offsetOk, nextRefusal, offsetRefusal}
-
--- the later tests speak where the first two pass
-two_then : (a b : Bool) (later : ℕ) → unless a badRing (unless b badPlace later) ≡ cond (eqb (unless a badRing (unless b badPlace accepted)) accepted) later (unless a badRing (unless b badPlace accepted))
-two_then true true later = refl
-two_then true false later = refl
-two_then false b later = refl
-
--- an offset is judged where the next place is not turned away
-pub offset-after-next : (size index : ℕ) (offset : ℤ) → offsetRefusal size index offset ≡ cond (eqb (nextRefusal size index) accepted) (unless (offsetOk size offset) badOffset accepted) (nextRefusal size index)
-unfolding offsetRefusal nextRefusal
-offset-after-next size index offset = two_then (slotsOk size) (placeOk size index) (unless (offsetOk size offset) badOffset accepted)
 
 module _ (size index : ℕ) (ok : nextRefusal size index ≡ accepted) where
   slots-passed : slotsOk size ≡ true

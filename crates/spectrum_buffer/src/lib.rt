@@ -1,4 +1,6 @@
 // Places in the ring of spectra.
+#![tactic(auto)]
+
 pub mod places;
 
 ghost use Rattle.std.specs.Prelude.{◌≡◌, nat_abs};
@@ -9,13 +11,14 @@ use places::{next_place, offset_place};
 
 pub const MAX_SLOTS: usize = 32;
 
-#[derive(Drop)]
+#[derive(Clone, Copy)]
 pub enum Place {
     At(usize),
     Refused(u32),
 }
 
 // The place after index; 4 and 9 are turned away.
+#[tactic(auto, unfolding(crate::specs::Ring::nextAnswer))]
 pub fn inc_index(size: usize, index: usize) -> Place
     ensures { result ≡ nextAnswer size index }
 {
@@ -46,6 +49,7 @@ pub fn slots_ok(size: usize) -> bool
     (1 <= size) & (size <= MAX_SLOTS)
 }
 
+#[tactic(auto, unfolding(crate::specs::Ring::nextRefusal))]
 fn next_refusal(size: usize, index: usize) -> u32
     ensures { result ≡ nextRefusal size index }
 {
@@ -56,6 +60,7 @@ fn next_refusal(size: usize, index: usize) -> u32
     }
 }
 
+#[tactic(auto, unfolding(crate::specs::Ring::nextRefusal, crate::specs::Ring::offsetRefusal))]
 fn offset_refusal(size: usize, index: usize, offset: isize) -> u32
     ensures { result ≡ offsetRefusal size index offset }
 {

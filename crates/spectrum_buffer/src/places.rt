@@ -4,6 +4,7 @@ ghost use Rattle.std.specs.Int.Signed.{rem_z};
 ghost use Rattle.spectrum_buffer.specs.Ring.{nextPlace, nonNegative, offsetPlace};
 
 // The place after index.
+#[tactic(auto, unfolding(crate::specs::Ring::nextPlace))]
 pub fn next_place(size: usize, index: usize) -> usize
     ensures { result ≡ nextPlace size index }
 {
@@ -15,6 +16,7 @@ pub fn next_place(size: usize, index: usize) -> usize
 }
 
 // The place at an offset from index. The bounds are those within which no sum here wraps.
+#[tactic(auto, unfolding(crate::specs::Ring::offsetPlace))]
 pub fn offset_place(size: usize, index: usize, offset: isize) -> usize
     requires index_lt_size { (index < size) × (size < 2 ^ 62) }
     requires offset_bound { nat_abs offset < 2 ^ 62 }

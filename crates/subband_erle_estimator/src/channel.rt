@@ -13,7 +13,7 @@ use erle_bands::sums::{add_powers, note_low_energy, ratios};
 
 pub const POINTS_TO_ACCUMULATE: usize = 6;
 
-#[derive(Drop)]
+#[derive(Clone, Copy)]
 pub struct SubbandChannel {
     pub num_points: usize,
     pub erle: [f32; 65],
@@ -40,6 +40,7 @@ fn points_with(points: usize) -> usize
 }
 
 impl SubbandChannel {
+    #[tactic(auto, unfolding(crate::specs::Channel::fresh, crate::specs::Channel::channelFrom, aec3_common::specs::Lists::tab))]
     pub fn new(min: f32) -> SubbandChannel
         ensures { result ≡ fresh min }
     {
@@ -93,6 +94,7 @@ impl SubbandChannel {
     }
 
     // Whether number 20 lets the record pass.
+    #[tactic(auto, unfolding(crate::specs::Subband::channelOk))]
     pub fn ok(self) -> bool
         ensures { result ≡ channelOk self }
     {

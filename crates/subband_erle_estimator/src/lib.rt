@@ -1,4 +1,6 @@
 // Subband ERLE: the plain, the onset-compensated and the uncapped ERLE of each band and channel.
+#![tactic(auto)]
+
 mod channel;
 mod settings;
 
@@ -17,7 +19,7 @@ pub use channel::SubbandChannel;
 pub use settings::SubbandSettings;
 use settings::refused_settings;
 
-#[derive(Drop)]
+#[derive(Clone, Copy)]
 pub struct SubbandErleEstimator {
     pub settings: SubbandSettings,
     pub channels: [SubbandChannel; 4],
@@ -25,13 +27,14 @@ pub struct SubbandErleEstimator {
 
 // The next state and 0, or the state as it was and the number under which the call is turned away. A refused start answers a fixed
 // state, which 20 turns away.
-#[derive(Drop)]
+#[derive(Clone, Copy)]
 pub struct SubbandAnswer {
     pub state: SubbandErleEstimator,
     pub refused: u32,
 }
 
 // All four records as a reset fills them.
+#[tactic(auto, unfolding(crate::specs::Subband::started, aec3_common::specs::Lists::tab))]
 fn started(settings: SubbandSettings) -> SubbandErleEstimator
     ensures { result ≡ Subband·started settings }
 {
@@ -44,6 +47,7 @@ impl SubbandErleEstimator {
     // A start. 1 and 2 are turned away, with a state that every later update and reset turns away. Where it accepts, it promises what
     // holds after any list of calls: every figure in its range; with onset detection on, a channel at rest whose last 500 accepted
     // calls are updates in which it stands unconverged; and no call that is turned away under 20.
+    #[tactic(auto, unfolding(crate::specs::Subband::startAnswer))]
     pub fn new(settings: SubbandSettings) -> SubbandAnswer
         ensures value { result ≡ startAnswer settings }
         ensures range_and_rest { (calls : List Call) → result.refused ≡ accepted → RangeAndRest settings calls }
@@ -84,6 +88,7 @@ impl SubbandErleEstimator {
     }
 
     // Every record as after a start. 20 is turned away.
+    #[tactic(auto, unfolding(crate::specs::Subband::resetAnswer, crate::specs::Subband::stateRefusal))]
     pub fn reset(self) -> SubbandAnswer
         ensures { result ≡ resetAnswer self }
     {

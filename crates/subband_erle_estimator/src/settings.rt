@@ -7,7 +7,7 @@ use aec3_common::refusal::ACCEPTED;
 use aec3_common::settings::{GREATEST_ERLE, limits_and_channels_refusal};
 use erle_bands::streams::Limits;
 
-#[derive(Drop)]
+#[derive(Clone, Copy)]
 pub struct SubbandSettings {
     pub min: f32,
     pub max_l: f32,
@@ -17,6 +17,7 @@ pub struct SubbandSettings {
 }
 
 // What a refused start answers with: number 20 turns it away.
+#[tactic(auto, unfolding(crate::specs::Subband::refusedSettings))]
 pub fn refused_settings() -> SubbandSettings
     ensures { result ≡ refusedSettings }
 {
@@ -31,6 +32,7 @@ pub fn refused_settings() -> SubbandSettings
 
 impl SubbandSettings {
     // The first of 1 and 2 that the settings break, or 0.
+    #[tactic(auto, unfolding(crate::specs::Subband::settingsRefusal))]
     pub fn refusal(self) -> u32
         ensures { result ≡ settingsRefusal self }
     {
@@ -38,6 +40,7 @@ impl SubbandSettings {
     }
 
     // How many channels' records number 20 looks at: none where the settings fail already.
+    #[tactic(auto, unfolding(crate::specs::Steps::judgedChannels))]
     pub(crate) fn judged_channels(self) -> usize
         ensures { result ≡ judgedChannels self }
     {

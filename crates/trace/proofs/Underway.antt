@@ -2,29 +2,30 @@
 use mathlib.Core.Path.{◌≡◌, refl, sym, ap, ◌∙◌}
 use mathlib.Core.Bool.{Bool, true, false, cond, false≢true}
 use mathlib.Core.List.{List}
-use Prim.Native.Nat.{ℕ, ◌+◌, ◌≤◌}
+use Prim.Native.Nat.{ℕ, ◌+◌, ◌-◌, ◌≤◌}
 use native.Mathlib.Omega.{arith}
 use borrow.Author.Tests.{eq-eqb}
-use lib.ListN.{length, drop, length-drop}
+use lib.ListN.{length, take, drop, length-drop}
 use Rattle.aec3_common.specs.Refusal.{accepted}
 use Rattle.subband_erle_estimator.specs.Subband.{settingsRefusal}
 use Rattle.subband_erle_estimator.proofs.Judged.{settings-few}
 use Rattle.erle_estimator.specs.Parts.{subbandSettings}
 use Rattle.erle_estimator.specs.Erle.{afterReset}
-use Rattle.trace_records.specs.Frames.{lengthIn, framed, recordIn}
+use Rattle.trace_records.specs.Frames.{lengthIn, framed, recordIn, frameLength}
 use Rattle.trace_records.specs.Records.{Record, settings, block, reset, unknown, erleSettings}
 use Rattle.trace_records.specs.Judge.{valueRefusal, recordRefusal, refusalAhead}
-use Rattle.trace_records.proofs.Framing.{framed-room}
+use Rattle.trace_records.proofs.Framing.{framed-room, no-length-framed}
 use Rattle.trace_records.proofs.Judged.{both-passed, unknown-refused}
 use Rattle.trace_state.specs.declared.Trace.{Trace}
-use Rattle.trace_state.specs.declared.Stop.TheVariants.{NoRoom, Refused, BadState}
+use Rattle.trace_state.specs.declared.Stop.TheVariants.{NoRecord, NoRoom, Refused, BadState}
 use Rattle.trace_state.specs.Apply.{channelsOf, standingOf, traceOk, next_of}
 use Rattle.trace_state.specs.Listing.{recordAt, refusalAt, refusedAt}
 use Rattle.trace_state.specs.Feed.{Walk, Stopped, withLine, findsRoom, refusedEnd, feedFrom, fed}
 use Rattle.trace_blocks.specs.Steps.{Ready, Ran}
 use Rattle.trace_state.specs.Apply.{isBlock}
 use Rattle.trace_state.proofs.Running.{due-next}
-use Rattle.trace_state.proofs.Turning.{fed-taken}
+use Rattle.trace_state.proofs.Turning.{fed-taken, fed-refused, fed-nothing}
+use Rattle.trace_blocks.proofs.Frames.{Whole, whole_is, lent-ahead, record-ahead}
 use Rattle.trace_blocks.proofs.Moving.{ready-started}
 
 -- a state that 20 lets pass is fed
@@ -98,3 +99,71 @@ module _ {s : List ℕ} {ended : Bool} {from now : Walk} (u : Underway s ended f
         within = omega (arith, long, framed-room ahead whole, length-drop now.used s, u.within);
         long = u.long;
       }
+
+module _
+    {t : Trace} {s : List ℕ} {ended : Bool} {d : List ℕ} {at : ℕ} {now : Walk} (ok : traceOk t ≡ true)
+    (u : Underway s ended (record { state = t; used = 0; out = d; at = at }) now)
+  where
+    -- where feeding ends, if it ends so from here
+    pub ends_so : {e : Stopped} → feedFrom s ended now ≡ e → fed t s ended d at ≡ e
+    ends_so is = fed-passing t s ended d at ok ∙ u.same ∙ is
+
+    -- the bytes that are yet to be read
+    abbrev rest : List ℕ
+    rest = drop now.used s
+
+    abbrev lent : List ℕ
+    lent = take (length s - now.used) rest
+
+    module _ (due : now.state.rows_due ≤ 0) {number : ℕ} (is : number ≡ refusalAhead (standingOf now.state) ended lent) where
+      none : now.state.rows_due ≡ 0
+      none = omega arith
+
+      number-is : number ≡ refusalAhead (standingOf now.state) ended rest
+      number-is = is ∙ ap (refusalAhead (standingOf now.state) ended) (lent-ahead s now.used)
+
+      pub ends-refused : (number ≡ accepted → ⊥) → fed t s ended d at ≡ refusedEnd now number
+      ends-refused bad = ends_so (fed-refused s ended now none number-is bad)
+
+      module _ (passes : number ≡ accepted) {l : ℕ} (long : l ≡ frameLength lent) where
+        fine : refusalAhead (standingOf now.state) ended rest ≡ accepted
+        fine = sym number-is ∙ passes
+
+        length-is : l ≡ frameLength rest
+        length-is = long ∙ ap frameLength (lent-ahead s now.used)
+
+        pub ends-cut : l ≡ 0 → fed t s ended d at ≡ record { walk = now; stop = NoRecord }
+        ends-cut cut = ends_so (fed-nothing s ended now none fine (no-length-framed rest (sym length-is ∙ cut)))
+
+        -- a whole record ahead, which is no block
+        module _ (some : l ≡ 0 → ⊥) (no_block : framed rest ≡ true → isBlock (recordAt now.state (recordIn rest)) ≡ true → refusalAt now.state (recordIn rest) ≡ accepted → ⊥) where
+          whole : Whole rest l
+          whole = whole_is rest length-is some
+
+          pub ends-within : now.used + 4 + l ≤ length s
+          ends-within = omega (arith, whole.room, length-drop now.used s, u.within)
+
+          abbrev bytes : List ℕ
+          bytes = take (now.used + 4 + l - (now.used + 4)) (drop (now.used + 4) s)
+
+          bytes-are : bytes ≡ recordIn rest
+          bytes-are = record-ahead s now.used whole.long
+
+          passed : refusalAt now.state (recordIn rest) ≡ accepted
+          unfolding refusalAhead
+          passed = rw whole.whole at fine
+
+          other : isBlock (recordAt now.state (recordIn rest)) ≡ false
+          other = go (isBlock (recordAt now.state (recordIn rest))) refl
+            where
+              go : (b : Bool) → isBlock (recordAt now.state (recordIn rest)) ≡ b → b ≡ false
+              go true e = absurd (no_block whole.whole e passed)
+              go false e = refl
+
+          pub no-block-lent : isBlock (recordAt now.state bytes) ≡ false
+          no-block-lent = rw bytes-are other
+
+          pub underway-next :
+              {next : Trace} → next ≡ next_of now.state (recordAt now.state bytes)
+              → Underway s ended (record { state = t; used = 0; out = d; at = at }) (record { state = next; used = now.used + 4 + l; out = now.out; at = now.at })
+          underway-next next-is = underway-record u none whole.whole passed other whole.long (rw bytes-are at next-is)

@@ -15,7 +15,7 @@ use trace_state::{Stop, Trace, state_ok};
 use trace_text::put_refused;
 
 // The state, how many bytes are done with, the place where the next line goes, and why it stopped.
-#[derive(Drop)]
+#[derive(Clone, Copy)]
 pub struct Fed {
     pub state: Trace,
     pub used: usize,

@@ -7,7 +7,7 @@ use trace_state::{Stop, beginning};
 use trace_text::put_header;
 
 // Whether there was room for all of the listing, and how much was written.
-#[derive(Drop)]
+#[derive(Clone, Copy)]
 pub struct Listed {
     pub written: usize,
     pub fits: bool,

@@ -2,3 +2,4 @@ pub mod Frames
 pub mod Due
 pub mod Moving
 pub mod Going
+pub mod AtBlock

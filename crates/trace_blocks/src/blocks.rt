@@ -17,7 +17,7 @@ use trace_records::{Decoded, Standing, decode, flags_in, frame_length, read_bloc
 use trace_state::Trace;
 
 // The state after some rows and blocks, how many bytes are done with, and the place where the next line goes.
-#[derive(Drop)]
+#[derive(Clone, Copy)]
 pub struct Run {
     pub state: Trace,
     pub used: usize,
@@ -50,7 +50,7 @@ fn block_frame_length(standing: Standing, s: &[u8]) -> usize
 }
 
 // A channel's record after a block, and what a row shows of it.
-#[derive(Drop)]
+#[derive(Clone, Copy)]
 struct MovedChannel {
     channel: SubbandChannel,
     figures: ChannelFigures,

@@ -11,7 +11,7 @@ use subband_erle_estimator::SubbandChannel;
 use trace_text::put_row;
 
 // What a row shows of a channel.
-#[derive(Drop)]
+#[derive(Clone, Copy)]
 pub struct ChannelFigures {
     pub plain: f32,
     pub compensated: f32,
@@ -19,7 +19,7 @@ pub struct ChannelFigures {
 }
 
 // The place behind the rows that found room, and how many are still due.
-#[derive(Drop)]
+#[derive(Clone, Copy)]
 pub struct RowsPut {
     pub at: usize,
     pub due: usize,

@@ -2,7 +2,7 @@
 ghost use Rattle.std.specs.Prelude.{◌≡◌, ◌-◌, ◌≤◌, length, take, drop};
 ghost use Rattle.trace_printer.specs.Held.{Within};
 
-use libc::{STDIN_FILENO, STDOUT_FILENO};
+use std::io::{Read, Write};
 use trace::{Stop, beginning, feed};
 use trace_text::put_header;
 
@@ -19,7 +19,7 @@ fn output_buffer() -> [u8; 6144] {
 }
 
 // Where the bytes begin and end that are read and not fed yet; and whether the input has ended.
-#[derive(Drop)]
+#[derive(Clone, Copy)]
 struct Held {
     from: usize,
     to: usize,
@@ -38,15 +38,16 @@ fn move_to_front(input: &mut [u8], from: usize, to: usize)
 }
 
 // Moves the bytes from `from` to `to` to the front, and reads more behind them. If there are no more, the input has ended, or cannot be read.
-fn read_on(input: &mut [u8], from: usize, to: usize) -> Held
+fn read_on<R: Read>(reader: &mut R, input: &mut [u8], from: usize, to: usize) -> Held
     requires { (from ≤ to) × (to ≤ length input.old) }
     ensures { Within (length input.new) result }
 {
     move_to_front(input, from, to);
     let left = to - from;
-    let rest = &mut input[left..];
-    let got = libc::read(STDIN_FILENO, rest);
-    let more = io::count(got, rest);
+    let more = match reader.read(&mut input[left..]) {
+        Ok(count) => count,
+        Err(_) => 0,
+    };
     Held {
         from: 0,
         to: left + more,
@@ -55,9 +56,9 @@ fn read_on(input: &mut [u8], from: usize, to: usize) -> Held
 }
 
 // Writes the text before a place; false where that fails.
-fn write_out(out: &[u8], at: usize) -> bool {
+fn write_out<W: Write>(writer: &mut W, out: &[u8], at: usize) -> bool {
     if at <= out.len() {
-        io::write_all(STDOUT_FILENO, &out[0..at])
+        writer.write_all(&out[0..at]).is_ok()
     } else {
         false
     }
@@ -84,20 +85,27 @@ fn wants_room(stop: Stop) -> bool {
 }
 
 // The next bytes to feed: those that are left, if their lines want room alone; else more behind them.
-fn next_bytes(input: &mut [u8], from: usize, to: usize, ended: bool, more: bool) -> Held
+fn next_bytes<R: Read>(
+    reader: &mut R,
+    input: &mut [u8],
+    from: usize,
+    to: usize,
+    ended: bool,
+    more: bool,
+) -> Held
     requires { (from ≤ to) × (to ≤ length input.old) }
     ensures { Within (length input.new) result }
 {
     if more {
-        read_on(input, from, to)
+        read_on(reader, input, from, to)
     } else {
         Held { from, to, ended }
     }
 }
 
-// Lists standard input. What is written after each feeding makes room for the next. The turns are counted down from a number that no run
+// Lists what a reader gives. What is written after each feeding makes room for the next. The turns are counted down from a number that no run
 // uses up, since nothing says that an input ends.
-fn run(input: &mut [u8], out: &mut [u8]) {
+fn run<R: Read, W: Write>(reader: &mut R, writer: &mut W, input: &mut [u8], out: &mut [u8]) {
     let mut t = beginning();
     let mut at = put_header(out, 0);
     let mut from = 0;
@@ -110,11 +118,11 @@ fn run(input: &mut [u8], out: &mut [u8]) {
         let state = fed.state;
         let stop = fed.stop;
         let more = wants_bytes(stop) & !ended;
-        let written = write_out(out, fed.at);
+        let written = write_out(writer, out, fed.at);
         if !(written & (more | wants_room(stop))) {
             return;
         }
-        let held = next_bytes(input, from + fed.used, to, ended, more);
+        let held = next_bytes(reader, input, from + fed.used, to, ended, more);
         t = state;
         at = 0;
         from = held.from;
@@ -123,8 +131,8 @@ fn run(input: &mut [u8], out: &mut [u8]) {
     }
 }
 
-fn main() {
+fn main(rt: HostRuntime) {
     let mut input = input_buffer();
     let mut out = output_buffer();
-    run(&mut input, &mut out);
+    run(&mut rt.stdin(), &mut rt.stdout(), &mut input, &mut out);
 }

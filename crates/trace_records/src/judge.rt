@@ -18,7 +18,7 @@ use aec3_common::settings::{capture_channels_ok, limits_and_channels_refusal};
 use encoding::byte_at;
 
 // What of the trace so far a record is judged by: the capture channels of the settings that stand, or 0 before them.
-#[derive(Drop)]
+#[derive(Clone, Copy)]
 pub struct Standing {
     pub num_capture_channels: usize,
 }
@@ -34,6 +34,7 @@ impl Standing {
     }
 
     // After a record that is accepted.
+    #[tactic(auto, unfolding(crate::specs::Judge::standingAfter, crate::specs::Steps::recordFrom))]
     pub fn after(self, record: &[u8]) -> Self
         ensures { result ≡ standingAfter self (decoded self «record».now) }
     {
@@ -56,6 +57,7 @@ fn flag_ok(flag: u32) -> bool
 }
 
 // Number 13 of settings: the onset flag and the printed band.
+#[tactic(auto, unfolding(crate::specs::Judge::flagsOk))]
 fn flag_and_band_ok(settings: SettingsRecord) -> bool
     ensures { result ≡ flagsOk (Record·settings settings) }
 {

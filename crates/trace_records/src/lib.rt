@@ -1,4 +1,6 @@
 // The records of a trace in bytes: where each begins and ends, what its bytes say, what stands after it, and which number turns it away.
+#![tactic(auto)]
+
 pub mod frames;
 pub mod judge;
 pub mod records;

@@ -23,7 +23,7 @@ pub const SETTINGS_LENGTH: usize = 21;
 pub const RESET_LENGTH: usize = 3;
 
 // What a settings record says.
-#[derive(Drop)]
+#[derive(Clone, Copy)]
 pub struct SettingsRecord {
     pub min: f32,
     pub max_l: f32,
@@ -35,7 +35,7 @@ pub struct SettingsRecord {
 }
 
 // A record by its kind. It holds no flags and numbers of a block; `flags_in` and `read_block` read these.
-#[derive(Drop)]
+#[derive(Clone, Copy)]
 pub enum Decoded {
     Settings(SettingsRecord),
     Block,
@@ -49,12 +49,14 @@ fn flag_at(record: &[u8], place: usize) -> bool
     byte_at(record, place) == 1
 }
 
+#[tactic(auto, unfolding(crate::specs::Records::value_at))]
 fn value_at(record: &[u8], place: usize) -> f32
     ensures { result ≡ value_at «record».now place }
 {
     float_of(word_at(record, place))
 }
 
+#[tactic(auto, unfolding(crate::specs::Records::settingsIn))]
 fn settings_in(record: &[u8]) -> SettingsRecord
     ensures { result ≡ settingsIn «record».now }
 {
@@ -86,6 +88,7 @@ pub fn decode(record: &[u8]) -> Decoded
 }
 
 // The settings of the estimator that a settings record starts, which has one section.
+#[tactic(auto, unfolding(crate::specs::Records::erleSettings))]
 pub fn erle_settings(settings: SettingsRecord) -> ErleSettings
     ensures { result ≡ erleSettings settings }
 {

@@ -6,3 +6,4 @@ pub mod Pieces
 pub mod Ahead
 pub mod Fitting
 pub mod Listed
+pub mod Staying

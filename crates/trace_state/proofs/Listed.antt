@@ -4,11 +4,12 @@ use mathlib.Core.Bool.{Bool, true, false, cond, not, ◌&&◌, ◌||◌, false�
 use mathlib.Core.List.{List, [], ◌∷◌, ◌++◌, append-nil}
 use Prim.Native.Nat.{ℕ, zero, suc, ◌+◌, ◌-◌, ◌≤◌, ◌<◌}
 use native.Mathlib.Omega.{arith}
-use borrow.Author.Tests.{leb-true, ltb-true, ltb-false, eqb-true, eqb-false}
-use lib.Dec.{eqb, ltb}
-use lib.ListN.{length, drop, length-append, length-drop}
+use borrow.Author.Tests.{leb-true, leb-false, ltb-true, ltb-false, eqb-true, eqb-false}
+use lib.Dec.{eqb, leb, ltb}
+use lib.ListN.{length, drop, length-append}
 use lib.Seq.{drop-drop}
 use Rattle.aec3_common.specs.Refusal.{unless, accepted, badFrame}
+use Rattle.aec3_common.proofs.Choices.{and_right}
 use Rattle.encoding.specs.Text.{laid}
 use Rattle.encoding.proofs.Writing.{Wrote, wrote_none, wrote_then, length-laid}
 use Rattle.trace_records.specs.Frames.{lengthIn, lengthOk, framed, recordIn}
@@ -20,12 +21,24 @@ use Rattle.trace_state.specs.declared.Stop.{Stop}
 use Rattle.trace_state.specs.declared.Stop.TheVariants.{NoRecord, NoRoom, Refused, BadState}
 use Rattle.trace_state.specs.Apply.{channelsOf, standingOf, next_of}
 use Rattle.trace_state.specs.Listing.{recordAt, refusalAt, refusedAt}
-use Rattle.trace_state.specs.Feed.{rowDue, withRowsDue, firstDue, nextIn, Walk, Stopped, on, withLine, findsRoom, refusedEnd, turnBy, goOn, turn_of, turns, ahead_of, feedFrom, fed, itemsAhead, itemsLeft, TooLong, Lists, GivesListing}
+use Rattle.trace_state.specs.Feed.{rowDue, withRowsDue, firstDue, nextIn, Walk, Stopped, withLine, findsRoom, refusedEnd, turnBy, goOn, turn_of, turns, ahead_of, feedFrom, fed, itemsAhead, itemsLeft, TooLong, Lists, GivesListing}
 use Rattle.trace_state.proofs.Judged.{due-few}
 use Rattle.trace_state.proofs.Running.{due-next}
 use Rattle.trace_state.proofs.Turning.{next-is, turn-falls}
-use Rattle.trace_state.proofs.Pieces.{length_front, bad-front, framed-front, record-front, rest-front}
+use Rattle.trace_state.proofs.Pieces.{bad-front, framed-front, record-front, rest-front}
 use Rattle.trace_state.proofs.Ahead.{ahead-row, ahead-taken, ahead-refused, ahead-bad, ahead_none}
+
+-- bytes that begin with no whole record and may be the front of one are fewer than the longest has
+less-left :
+    (s : List ℕ) (none few fine : Bool) → eqb (length s) 0 ≡ none → ltb (length s) 4 ≡ few → lengthOk (lengthIn s) ≡ fine → framed s ≡ false
+    → eqb (unless (none || (few || fine)) badFrame accepted) accepted ≡ true → length s < 65536
+unfolding framed
+less-left s true few fine a b e r o = omega (arith, eqb-true (length s) 0 a)
+less-left s false true fine a b e r o = omega (arith, ltb-true (length s) 4 b)
+less-left s false false true a b e r o =
+    let cut : leb (4 + lengthIn s) (length s) ≡ false = rw e at r in
+    omega (arith, leb-true (lengthIn s) 65532 (and_right (leb 2 (lengthIn s)) (leb (lengthIn s) 65532) e), leb-false (4 + lengthIn s) (length s) cut)
+less-left s false false false a b e r o = absurd (false≢true o)
 
 module _ (s : List ℕ) (ended : Bool) where
   -- what may follow the bytes
@@ -40,9 +53,10 @@ module _ (s : List ℕ) (ended : Bool) where
       (w : Walk) (stop : Stop) → w.at ≤ length w.out → ((more : List ℕ) → itemsLeft stop w.state (drop w.used s ++ more) ≡ here w more)
       → (stop ≡ NoRoom → (more : List ℕ) → Follows more → TooLong w (here w more))
       → (ended ≡ true → (stop ≡ NoRoom → ⊥) → itemsLeft stop w.state (drop w.used s) ≡ [])
+      → (ended ≡ false → stop ≡ NoRecord → length (drop w.used s) < 65536) → (stop ≡ BadState → ⊥)
       → Lists s ended w (record { walk = w; stop = stop })
   unfolding lines
-  stops-here w stop h left full all =
+  stops-here w stop h left full all short passes =
       let nothing = wrote_none w.out w.at h in
       record {
         items = [];
@@ -52,7 +66,21 @@ module _ (s : List ℕ) (ended : Bool) where
         rest = λ more follows. sym (left more);
         full = full;
         all = all;
+        short = short;
+        passes = passes;
       }
+
+  abbrev wantsRoom : Stop → Bool
+  wantsRoom NoRecord = false
+  wantsRoom NoRoom = true
+  wantsRoom (Refused number) = false
+  wantsRoom BadState = false
+
+  abbrev wantsBytes : Stop → Bool
+  wantsBytes NoRecord = true
+  wantsBytes NoRoom = false
+  wantsBytes (Refused number) = false
+  wantsBytes BadState = false
 
   -- for want of room
   too_long :
@@ -63,6 +91,8 @@ module _ (s : List ℕ) (ended : Bool) where
       stops-here w NoRoom h (λ more. refl)
       (λ is more follows. let (others, are) = first more follows in record { first = i; others = others; are = are; long = long })
       (λ end room. absurd (room refl))
+      (λ goes is. absurd (false≢true (ap wantsBytes is)))
+      (λ bad. cc)
 
   -- a line more in front
   lists-line :
@@ -81,13 +111,9 @@ module _ (s : List ℕ) (ended : Bool) where
         rest = λ more follows. first more ∙ ap (λ (is : List Item). i ∷ is) (later.rest more follows);
         full = later.full;
         all = later.all;
+        short = later.short;
+        passes = later.passes;
       }
-
-  abbrev wantsRoom : Stop → Bool
-  wantsRoom NoRecord = false
-  wantsRoom NoRoom = true
-  wantsRoom (Refused number) = false
-  wantsRoom BadState = false
 
   -- a refusal is the last line
   lists-refused :
@@ -114,6 +140,8 @@ module _ (s : List ℕ) (ended : Bool) where
             rest = last;
             full = λ is. absurd (false≢true (ap wantsRoom is));
             all = λ end other. refl;
+            short = λ goes is. absurd (false≢true (ap wantsBytes is));
+            passes = λ bad. cc;
           }
       go false fits = too_long w i h fits (λ more follows. ([], last more follows))
 
@@ -217,12 +245,16 @@ module _ (s : List ℕ) (ended : Bool) where
             rest = λ more follows. taken-ahead (none-due p) r ok more ∙ so.rest more follows;
             full = so.full;
             all = so.all;
+            short = so.short;
+            passes = so.passes;
           }
       go later false p true q false r =
           let is = next-is t ended rest false true false p q r in
           rw is
           (stops-here w NoRecord l (λ more. refl) (λ is-full. absurd (false≢true (ap wantsRoom is-full)))
-          (λ end other. ahead_none t rest (none-due p) (nothing_left (eqb (length rest) 0) refl (rw (r, end) at q))))
+          (λ end other. ahead_none t rest (none-due p) (nothing_left (eqb (length rest) 0) refl (rw (r, end) at q)))
+          (λ goes stop. less-left rest (eqb (length rest) 0) (ltb (length rest) 4) (lengthOk (lengthIn rest)) refl refl refl r (rw (r, goes) at q))
+          (λ bad. cc))
       go later false p false q true r =
           let is = next-is t ended rest false false true p q r in
           let wrong : refusalAt t (recordIn rest) ≡ accepted → ⊥ = eqb-false _ _ (rw r at q) in

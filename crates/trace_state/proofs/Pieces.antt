@@ -1,12 +1,12 @@
 -- Bytes with more behind them.
-use mathlib.Core.Path.{◌≡◌, refl, sym, ap, ◌∙◌}
-use mathlib.Core.Bool.{Bool, true, false, ◌&&◌}
+use mathlib.Core.Path.{◌≡◌}
+use mathlib.Core.Bool.{true, false}
 use mathlib.Core.List.{List, ◌++◌}
 use Prim.Native.Nat.{ℕ, ◌+◌, ◌≤◌, ◌<◌}
 use native.Mathlib.Omega.{arith}
 use borrow.Author.Tests.{le-leb}
 use lib.Dec.{leb}
-use lib.ListN.{length, take, drop, length-append, length-drop, get_or-append}
+use lib.ListN.{length, drop, length-append, length-drop, get_or-append}
 use lib.Seq.{take-append-le, drop-append-le}
 use Rattle.aec3_common.proofs.Choices.{and_left}
 use Rattle.encoding.specs.Bytes.{byte_at, halfAt, word_at}

@@ -2,22 +2,21 @@
 use mathlib.Core.Path.{◌≡◌, refl, sym, ap, ◌∙◌}
 use mathlib.Core.Bool.{Bool, true, false, cond, false≢true}
 use mathlib.Core.List.{List}
-use Prim.Native.Nat.{ℕ, zero, suc, ◌+◌, ◌-◌, ◌≤◌, ◌<◌}
+use Prim.Native.Nat.{ℕ, zero, suc, ◌+◌, ◌-◌, ◌<◌}
 use native.Mathlib.Omega.{arith}
-use borrow.Author.Tests.{lt-ltb, le-ltb, eq-eqb, ne_eqb, leb-true, ltb-true, eqb-true}
+use borrow.Author.Tests.{lt-ltb, le-ltb, eq-eqb, ne_eqb, leb-true}
 use lib.Dec.{eqb, ltb}
 use lib.ListN.{length, drop, length-drop}
 use Rattle.aec3_common.specs.Refusal.{accepted}
-use Rattle.encoding.specs.Text.{laid, room}
 use Rattle.encoding.proofs.Writing.{length-laid}
 use Rattle.trace_records.specs.Frames.{lengthIn, framed, recordIn}
 use Rattle.trace_records.specs.Judge.{refusalAhead}
-use Rattle.trace_records.proofs.Framing.{framed-least, framed-room}
+use Rattle.trace_records.proofs.Framing.{framed-room}
 use Rattle.trace_text.specs.Text.{Item, line}
 use Rattle.trace_text.proofs.Lines.{line-some}
 use Rattle.trace_state.specs.declared.Trace.{Trace}
 use Rattle.trace_state.specs.declared.Stop.TheVariants.{NoRecord, NoRoom}
-use Rattle.trace_state.specs.Apply.{channelsOf, standingOf, next_of, row_at}
+use Rattle.trace_state.specs.Apply.{standingOf, next_of}
 use Rattle.trace_state.specs.Listing.{recordAt, refusalAt}
 use Rattle.trace_state.specs.Feed.{Next, rowDue, taken, turnedAway, nothing, withRowsDue, firstDue, nextIn, Walk, Stopped, Turn, on, ends, withLine, findsRoom, refusedEnd, turnBy, goOn, turn_of, turns, ahead_of, feedFrom}
 

@@ -1,6 +1,6 @@
 -- A trace fed to the estimator in bytes: what comes next, again and again, until there is no whole record left, no room for a line, or a
 -- refusal.
-use Rattle.std.specs.Prelude.{◌≡◌, Bool, true, false, cond, List, [], ◌∷◌, ◌++◌, ℕ, zero, suc, ◌+◌, ◌-◌, ◌≤◌, eqb, ltb, length, drop}
+use Rattle.std.specs.Prelude.{◌≡◌, Bool, true, false, cond, List, [], ◌∷◌, ◌++◌, ℕ, zero, suc, ◌+◌, ◌-◌, ◌≤◌, ◌<◌, eqb, ltb, length, drop}
 use Rattle.aec3_common.specs.Refusal.{accepted}
 use Rattle.encoding.specs.Text.{laid, room}
 use Rattle.trace_records.specs.Frames.{lengthIn, framed, recordIn, frames}
@@ -127,7 +127,8 @@ pub record TooLong (w : Walk) (is : List Item) : Type 0 where
   pub long : findsRoom w first ≡ false
 
 -- Feeding some bytes writes the lines of some items. These, and those that are left, are what was ahead, whatever bytes follow (if the trace ends
--- with these, none). It stops for want of room only where the next line finds none; at the end of a trace it stops otherwise only if nothing is left.
+-- with these, none). It stops for want of room only where the next line finds none; at the end of a trace it stops otherwise only if nothing is left,
+-- and before the end for want of a record only if less than one is left. The state is not turned away.
 pub record Lists (s : List ℕ) (ended : Bool) (w : Walk) (x : Stopped) : Type 0 where
   pub items : List Item
   pub fits : w.at + length (lines items) ≤ length w.out
@@ -139,6 +140,8 @@ pub record Lists (s : List ℕ) (ended : Bool) (w : Walk) (x : Stopped) : Type 0
   pub full :
       x.stop ≡ NoRoom → (more : List ℕ) → (ended ≡ true → more ≡ []) → TooLong x.walk (itemsAhead x.walk.state (drop x.walk.used s ++ more))
   pub all : ended ≡ true → (x.stop ≡ NoRoom → ⊥) → itemsLeft x.stop x.walk.state (drop x.walk.used s) ≡ []
+  pub short : ended ≡ false → x.stop ≡ NoRecord → length (drop x.walk.used s) < 65536
+  pub passes : x.stop ≡ BadState → ⊥
 
 -- Claim, which `feed` promises of every state that 20 lets pass. So that feeding a trace from the beginning on, in pieces or at once, gives its
 -- listing.

@@ -1,4 +1,6 @@
 // The state of a trace, and what each record does to it but blocks, which change it in place (`trace_blocks`).
+#![tactic(auto)]
+
 pub mod records;
 
 use erle_estimator::ErleEstimator;
@@ -6,7 +8,7 @@ pub use records::{beginning, state_ok};
 
 // The estimator, before settings that of a refused start; the printed band; the blocks of the whole trace so far, and the records; and how
 // many rows of the latest block are yet to be written, which are its last ones.
-#[derive(Drop)]
+#[derive(Clone, Copy)]
 pub struct Trace {
     pub estimator: ErleEstimator,
     pub band: usize,
@@ -17,7 +19,7 @@ pub struct Trace {
 
 // Why feeding stopped: no whole record is left; the next line finds no room; a record was refused under a number, and its line is written;
 // or 20 turns the state away, and nothing is written.
-#[derive(Drop)]
+#[derive(Clone, Copy)]
 pub enum Stop {
     NoRecord,
     NoRoom,

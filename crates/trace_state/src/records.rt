@@ -38,6 +38,7 @@ pub fn beginning() -> Trace
 }
 
 // Whether number 20 lets the state pass.
+#[tactic(auto, unfolding(crate::specs::Apply::traceOk))]
 pub fn state_ok(t: Trace) -> bool
     ensures { result ≡ traceOk t }
 {
@@ -52,6 +53,7 @@ pub fn state_ok(t: Trace) -> bool
 }
 
 // Settings: a start.
+#[tactic(auto, unfolding(crate::specs::Apply::next_of))]
 fn after_settings(t: Trace, settings: SettingsRecord) -> Trace
     ensures { result ≡ next_of t (Record·settings settings) }
 {
@@ -66,6 +68,7 @@ fn after_settings(t: Trace, settings: SettingsRecord) -> Trace
 }
 
 // A reset.
+#[tactic(auto, unfolding(crate::specs::Apply::next_of))]
 fn after_reset(t: Trace, delay_flag: u32) -> Trace
     ensures { result ≡ next_of t (Record·reset delay_flag) }
 {

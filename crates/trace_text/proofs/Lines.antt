@@ -1,11 +1,10 @@
 -- Lines after lines, and how long a line is.
-use mathlib.Core.Path.{◌≡◌, refl, sym, ap, ◌∙◌}
+use mathlib.Core.Path.{◌≡◌, refl}
 use mathlib.Core.List.{List, [], ◌∷◌, ◌++◌, append_assoc, append-nil}
-use Prim.Native.Nat.{ℕ, ◌+◌, ◌≤◌}
+use Prim.Native.Nat.{◌≤◌}
 use native.Mathlib.Omega.{arith}
 use lib.Ieee.{Float, binary32, to_bits}
 use lib.ListN.{length, length-append}
-use Rattle.encoding.specs.Text.{decimal, hex8}
 use Rattle.encoding.proofs.Digits.{length-decimal, length-hex8}
 use Rattle.trace_text.specs.Text.{Item, row, refused, figure, spaced, line_of, line, lines}
 

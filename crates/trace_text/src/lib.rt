@@ -1,5 +1,7 @@
 // The lines of a listing, each written over a lent slice from a place on: all of it, answering the place after it, or, where there is no
 // room for all, nothing and the same place. No public function asks anything of its caller.
+#![tactic(auto)]
+
 ghost use Rattle.std.specs.Prelude.{◌≡◌, ◌∷◌};
 ghost use Rattle.encoding.specs.Text.{written, after};
 ghost use Rattle.trace_text.specs.Text.{figure, header, row, refused, line};

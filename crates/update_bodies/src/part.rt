@@ -9,7 +9,7 @@ pub const LISTS: usize = 20;
 const MOST_TIMES: u32 = 65535;
 
 // The counts at the head of the body: channels of the call, and the lengths of its lists.
-#[derive(Drop)]
+#[derive(Clone, Copy)]
 pub struct UpdateCounts {
     pub channels: u32,
     pub flags: u32,
@@ -19,7 +19,7 @@ pub struct UpdateCounts {
 }
 
 // Where each list of floats starts in the body, and where the last one ends.
-#[derive(Drop)]
+#[derive(Clone, Copy)]
 pub struct Places {
     pub x2: usize,
     pub y2: usize,

@@ -10,7 +10,7 @@ pub const MOST_COUNTS: usize = 16;
 
 // The fields at the head of the body: channels of the call, the ring, and the lengths of the lists. The head ends, and the
 // counts of response blocks start, behind the last of them.
-#[derive(Drop)]
+#[derive(Clone, Copy)]
 pub struct UpdateHead {
     pub channels: u32,
     pub slots: u32,
@@ -27,7 +27,7 @@ pub struct UpdateHead {
 }
 
 // Where each list starts in the record.
-#[derive(Drop)]
+#[derive(Clone, Copy)]
 pub struct Places {
     pub counts: usize,
     pub flags: usize,

@@ -1,0 +1,5 @@
+use Rattle.aec3_common.proofs.Tables.{stored-all}
+use Rattle.correction_factors.proofs.learning.count_updates.Goals as goal
+
+pub returns : goal.returns
+returns c = stored-all c.loop-s.invariant c.loop-s-test.false

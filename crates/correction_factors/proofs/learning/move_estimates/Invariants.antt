@@ -1,0 +1,14 @@
+-- In each subband up to s the estimate of its least active section is moved.
+use mathlib.Core.Bool.{false}
+use lib.Ieee.{nan}
+use lib.ListN.{get_or}
+use Rattle.correction_factors.specs.Factors.{subbandOf}
+use Rattle.correction_factors.specs.Steps.{movedIn}
+use Rattle.correction_factors.proofs.Entries.{Learning}
+use Rattle.correction_factors.proofs.learning.move_estimates.Given as goal
+
+abbrev pub invariant-loop-s : goal.invariant-loop-s
+invariant-loop-s l =
+    Learning (λ s. get_or l.least s 0)
+    (λ j e. movedIn l.limits.min l.limits.max_l l.limits.max_h (subbandOf j) (get_or l.updated (subbandOf j) false) (get_or l.new (subbandOf j) nan) e)
+    l.initial.estimates l.estimates l.s

@@ -1,0 +1,18 @@
+use Rattle.std.proofs.Common.{pos, get_or, ◌∙◌, arith}
+use Rattle.aec3_common.proofs.Holds.{read_back}
+use Rattle.aec3_common.proofs.Tables.{stored-none, stored_more, stored-not-yet, stored-inner}
+use Rattle.erle_bands.specs.Steps.{allHoldsLess}
+use Rattle.erle_bands.proofs.onsets.lower_all.Goals as goal
+
+pub loop-k-init : goal.loop-k-init
+loop-k-init c = stored-none _ _ _ _ _ (omega arith) c.requires
+
+pub loop-k-preserved : goal.loop-k-preserved
+loop-k-preserved c =
+    let same = read_back (get_or c.loop-k.holds c.loop-k.k (pos 0)) (omega arith) in
+    stored_more _ c.loop-k.invariant c.loop-k-test.true (omega arith)
+    (read_back c.hold_less.result c.hold_less.type_inv ∙ c.hold_less.ensures ∙ simp same (simp (stored-not-yet c.loop-k.invariant)))
+
+pub returns : goal.returns
+unfolding allHoldsLess
+returns c = stored-inner c.loop-k.invariant c.loop-k-test.false

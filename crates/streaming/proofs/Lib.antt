@@ -1,0 +1,2 @@
+pub mod Piped
+pub mod Behind

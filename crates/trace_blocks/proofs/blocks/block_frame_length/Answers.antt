@@ -1,0 +1,46 @@
+-- The tests are the definition's.
+use Rattle.std.proofs.Common.{sym, ◌∙◌, arith, true, false}
+use borrow.Author.Tests.{eq-eqb, ne_eqb}
+use Rattle.trace_records.specs.Steps.{recordFrom}
+use Rattle.trace_state.specs.Apply.{isBlock}
+use Rattle.trace_blocks.proofs.Frames.{Whole, whole_is, frame-none, frame-by, frame-other}
+use Rattle.trace_blocks.proofs.blocks.block_frame_length.Goals as goal
+
+pub returns-then-length-eq0 : goal.returns-then-length-eq0
+returns-then-length-eq0 c = frame-none _ _ (sym c.frame_length-length.ensures ∙ c.if-length-eq0.true)
+
+pub overflow_add-end : goal.overflow_add-end
+overflow_add-end c =
+    let w = whole_is _ c.frame_length-length.ensures c.if-length-eq0.false in
+    omega (arith, w.few)
+
+pub slice_bounds-record-end : goal.slice_bounds-record-end
+slice_bounds-record-end c = (whole_is _ c.frame_length-length.ensures c.if-length-eq0.false).room
+
+pub returns-then-block_form_refusal-eq-ACCEPTED : goal.returns-then-block_form_refusal-eq-ACCEPTED
+returns-then-block_form_refusal-eq-ACCEPTED c =
+    let w = whole_is _ c.frame_length-length.ensures c.if-length-eq0.false in
+    frame-by _ _ w (c.in-Block.ensures c.args.standing) c.block_form_refusal.ensures true (eq-eqb _ _ c.if-block_form_refusal-eq-ACCEPTED.true)
+
+pub returns-else-block_form_refusal-eq-ACCEPTED : goal.returns-else-block_form_refusal-eq-ACCEPTED
+returns-else-block_form_refusal-eq-ACCEPTED c =
+    let w = whole_is _ c.frame_length-length.ensures c.if-length-eq0.false in
+    frame-by _ _ w (c.in-Block.ensures c.args.standing) c.block_form_refusal.ensures false (ne_eqb _ _ c.if-block_form_refusal-eq-ACCEPTED.false)
+
+pub returns-in-Settings : goal.returns-in-Settings
+unfolding recordFrom isBlock
+returns-in-Settings c =
+    let w = whole_is _ c.frame_length-length.ensures c.if-length-eq0.false in
+    frame-other _ _ w c.decode-decoded.result (c.decode-decoded.ensures c.args.standing) (rw c.in-Settings.is)
+
+pub returns-in-Reset : goal.returns-in-Reset
+unfolding recordFrom isBlock
+returns-in-Reset c =
+    let w = whole_is _ c.frame_length-length.ensures c.if-length-eq0.false in
+    frame-other _ _ w c.decode-decoded.result (c.decode-decoded.ensures c.args.standing) (rw c.in-Reset.is)
+
+pub returns-in-Unknown : goal.returns-in-Unknown
+unfolding recordFrom isBlock
+returns-in-Unknown c =
+    let w = whole_is _ c.frame_length-length.ensures c.if-length-eq0.false in
+    frame-other _ _ w c.decode-decoded.result (c.decode-decoded.ensures c.args.standing) (rw c.in-Unknown.is)

@@ -1,0 +1,32 @@
+use Rattle.std.proofs.Common.{sym}
+use borrow.Author.Tests.{eq-eqb, ne_eqb}
+use Rattle.trace_records.specs.Judge.{placeRefusal, lengthAsked, flagsOk, valueRefusal, formRefusal, recordRefusal}
+use Rattle.trace_records.proofs.judge.settings_refusal.Goals as goal
+
+pub returns-then-capture_channels_ok : goal.returns-then-capture_channels_ok
+unfolding recordRefusal formRefusal placeRefusal lengthAsked flagsOk valueRefusal
+returns-then-capture_channels_ok c = simp (sym c.if-capture_channels_ok.ensures)
+
+pub returns-then-length-ne-SETTINGS_LENGTH : goal.returns-then-length-ne-SETTINGS_LENGTH
+unfolding recordRefusal formRefusal placeRefusal lengthAsked flagsOk valueRefusal
+returns-then-length-ne-SETTINGS_LENGTH c =
+    simp (sym c.if-capture_channels_ok.ensures, ne_eqb _ _ c.if-length-ne-SETTINGS_LENGTH.true)
+
+pub returns-then-not-flag_and_band_ok : goal.returns-then-not-flag_and_band_ok
+unfolding recordRefusal formRefusal placeRefusal lengthAsked flagsOk valueRefusal
+returns-then-not-flag_and_band_ok c =
+    simp (
+      sym c.if-capture_channels_ok.ensures,
+      eq-eqb _ _ c.if-length-ne-SETTINGS_LENGTH.false,
+      sym c.if-not-flag_and_band_ok.ensures,
+    )
+
+pub returns-else-not-flag_and_band_ok : goal.returns-else-not-flag_and_band_ok
+unfolding recordRefusal formRefusal placeRefusal lengthAsked flagsOk valueRefusal
+returns-else-not-flag_and_band_ok c =
+    simp (
+      sym c.if-capture_channels_ok.ensures,
+      eq-eqb _ _ c.if-length-ne-SETTINGS_LENGTH.false,
+      sym c.if-not-flag_and_band_ok.ensures,
+      c.limits_and_channels_refusal.ensures,
+    )
