@@ -3,6 +3,7 @@
 use crate::lines::fields;
 use crate::program::Program;
 use crate::run::Run;
+use crate::scripts::random::Random;
 use crate::scripts::{Name, NAMES};
 use std::io::{self, Write};
 use std::process::{Command, Output, Stdio};
@@ -60,7 +61,7 @@ fn compare_one(name: &Name, script: &[u8], file: &str) -> Result<usize, String> 
     let run = || Run::showing(name.program, name.state, script);
     let (lines, records) = run().finish();
     let words: &[&str] = if name.state { &["state"] } else { &[] };
-    let done = run_program(file, words, script)
+    let done = run_program(file, words, script, name.pieces)
         .map_err(|error| format!("{file} does not run: {error}"))?;
     let record = |line| record_of_line(run(), line);
     if let Some(difference) = first_difference(lines.as_bytes(), &done.stdout, record) {
@@ -72,10 +73,10 @@ fn compare_one(name: &Name, script: &[u8], file: &str) -> Result<usize, String> 
     }
 }
 
-/// Runs a program, with some words, on a script. Its input is written from a thread
+/// Runs a program, with some words, on a script, which it gets at once or in pieces. Its input is written from a thread
 /// of its own, as it may print before it has read everything, or end without
 /// reading the rest; a failed write therefore counts for nothing.
-fn run_program(file: &str, words: &[&str], script: &[u8]) -> io::Result<Output> {
+fn run_program(file: &str, words: &[&str], script: &[u8], pieces: bool) -> io::Result<Output> {
     let mut child = Command::new(file)
         .args(words)
         .stdin(Stdio::piped())
@@ -83,9 +84,39 @@ fn run_program(file: &str, words: &[&str], script: &[u8]) -> io::Result<Output> 
         .spawn()?;
     let mut input = child.stdin.take().expect("standard input is piped");
     thread::scope(|scope| {
-        scope.spawn(move || input.write_all(script).ok());
+        scope.spawn(move || {
+            if pieces {
+                write_pieces(&mut input, script).ok()
+            } else {
+                input.write_all(script).ok()
+            }
+        });
         child.wait_with_output()
     })
+}
+
+/// The sizes of pieces: of one script all have one size, or each has one of these, or any.
+const PIECES: [usize; 5] = [1, 3, 7, 4_096, 65_536];
+
+/// The greatest size of a piece whose size is left to chance.
+const GREATEST_PIECE: u32 = 5_000;
+
+/// Writes a script in pieces, each by a call of its own. The script's length chooses how their sizes go.
+fn write_pieces(input: &mut impl Write, script: &[u8]) -> io::Result<()> {
+    let mut random = Random::new(script.len() as u64);
+    let way = random.below(PIECES.len() as u32 + 2) as usize;
+    let mut rest = script;
+    while !rest.is_empty() {
+        let size = match PIECES.get(way) {
+            Some(&size) => size,
+            None if way == PIECES.len() => random.one_of(&PIECES),
+            None => 1 + random.below(GREATEST_PIECE) as usize,
+        };
+        let (piece, behind) = rest.split_at(size.min(rest.len()));
+        input.write_all(piece)?;
+        rest = behind;
+    }
+    Ok(())
 }
 
 /// Words for the first line that differs, with the record of its number.

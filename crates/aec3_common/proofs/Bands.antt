@@ -3,7 +3,7 @@ use Rattle.std.proofs.Common.{◌≡◌, ℕ, ◌+◌, ◌-◌, ◌*◌, ◌/◌
 use borrow.Author.Tests.{eqb-false}
 use lib.Ieee.{Float, nan}
 use Rattle.aec3_common.specs.Lists.{tab, every}
-use Rattle.aec3_common.specs.Spectra.{part, innerBand, shownBand, endsCopied}
+use Rattle.aec3_common.specs.Spectra.{part, inner_band, shown_band, ends_copied}
 use Rattle.aec3_common.proofs.Choices.{and_left, and_right, cond_has}
 use Rattle.aec3_common.proofs.Every.{every_take, every_drop}
 use Rattle.aec3_common.proofs.Tables.{tab-is, tab-same}
@@ -87,10 +87,10 @@ unfolding part
 part-every p spectra ch ok = every_take p 65 (drop (ch * 65) spectra) (every_drop p (ch * 65) spectra ok)
 
 -- a band that is shown is an inner band
-pub shown-inner : (k : ℕ) → k < 65 → innerBand (shownBand k) ≡ true
+pub shown-inner : (k : ℕ) → k < 65 → inner_band (shown_band k) ≡ true
 shown-inner k h = go (eqb k 0) refl (eqb k 64) refl
   where
-    go : (s : Bool) → eqb k 0 ≡ s → (t : Bool) → eqb k 64 ≡ t → innerBand (cond s 1 (cond t 63 k)) ≡ true
+    go : (s : Bool) → eqb k 0 ≡ s → (t : Bool) → eqb k 64 ≡ t → inner_band (cond s 1 (cond t 63 k)) ≡ true
     go true e t f = refl
     go false e true f = refl
     go false e false f =
@@ -99,7 +99,7 @@ shown-inner k h = go (eqb k 0) refl (eqb k 64) refl
         simp (lt-ltb 0 k some, lt-ltb k 64 few)
 
 -- an inner band shows its own figures
-pub inner-shown : (k : ℕ) → innerBand k ≡ true → shownBand k ≡ k
+pub inner-shown : (k : ℕ) → inner_band k ≡ true → shown_band k ≡ k
 inner-shown k e = go (eqb k 0) refl (eqb k 64) refl
   where
     go : (a : Bool) → eqb k 0 ≡ a → (z : Bool) → eqb k 64 ≡ z → cond a 1 (cond z 63 k) ≡ k
@@ -107,16 +107,16 @@ inner-shown k e = go (eqb k 0) refl (eqb k 64) refl
     go false f true g = absurd (omega (arith, eqb-true k 64 g, ltb-true k 64 (and_right (ltb 0 k) (ltb k 64) e)))
     go false f false g = refl
 
-pub shown-below : (k : ℕ) → k < 65 → shownBand k < 65
+pub shown-below : (k : ℕ) → k < 65 → shown_band k < 65
 shown-below k h =
-    let few : ltb (shownBand k) 64 ≡ true = and_right (ltb 0 (shownBand k)) (ltb (shownBand k) 64) (shown-inner k h) in
-    omega (arith, ltb-true (shownBand k) 64 few)
+    let few : ltb (shown_band k) 64 ≡ true = and_right (ltb 0 (shown_band k)) (ltb (shown_band k) 64) (shown-inner k h) in
+    omega (arith, ltb-true (shown_band k) 64 few)
 
 -- bands 0 and 64 overwritten by 1 and 63
-pub ends-stored : (s : List Float) → set (set s 0 (get_or s 1 nan)) 64 (get_or s 63 nan) ≡ endsCopied s
-unfolding endsCopied
+pub ends-stored : (s : List Float) → set (set s 0 (get_or s 1 nan)) 64 (get_or s 63 nan) ≡ ends_copied s
+unfolding ends_copied
 ends-stored s =
-    tab-is (length s) nan (λ k. get_or s (shownBand k) nan) (set first 64 (get_or s 63 nan)) (simp length-set)
+    tab-is (length s) nan (λ k. get_or s (shown_band k) nan) (set first 64 (get_or s 63 nan)) (simp length-set)
     (λ k h. go k h (eqb k 0) refl (eqb k 64) refl)
   where
     first : List Float
@@ -140,6 +140,6 @@ ends-stored s =
 -- bands 0 and 64 copy 1 and 63, whatever they were: what bands 1 to 63 hold says what all show
 pub ends-are :
     (s : List Float) (f : ℕ → Float) → length s ≡ 65
-    → ((k : ℕ) → k < 65 → innerBand k ≡ true → get_or s k nan ≡ f k) → endsCopied s ≡ tab 65 (λ k. f (shownBand k))
-unfolding endsCopied
-ends-are s f long at = rw long (tab-same 65 nan _ _ (λ k b. at (shownBand k) (shown-below k b) (shown-inner k b)))
+    → ((k : ℕ) → k < 65 → inner_band k ≡ true → get_or s k nan ≡ f k) → ends_copied s ≡ tab 65 (λ k. f (shown_band k))
+unfolding ends_copied
+ends-are s f long at = rw long (tab-same 65 nan _ _ (λ k b. at (shown_band k) (shown-below k b) (shown-inner k b)))

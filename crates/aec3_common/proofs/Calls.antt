@@ -1,60 +1,60 @@
 -- What the judging of settings and of an update tells, and what a run keeps.
 use Rattle.std.proofs.Common.{◌≡◌, ℕ, ◌*◌, ◌≤◌, Bool, true, false, eqb, List, [], ◌∷◌, ◌++◌, length, refl, arith, eqb-true}
 use lib.Ieee.{Float}
-use Rattle.aec3_common.specs.Binary32.{valuesOk}
-use Rattle.aec3_common.specs.Refusal.{unless, accepted, badChannelCount, badState}
-use Rattle.aec3_common.specs.Settings.{maxCaptureChannels, limitsOk, captureChannelsOk, sectionsOk, limitsAndChannelsRefusal, sectionedSettingsRefusal}
-use Rattle.aec3_common.specs.Calls.{run_by, lengthsOk, valuesInRange, callRefusal}
+use Rattle.aec3_common.specs.Binary32.{values_ok}
+use Rattle.aec3_common.specs.Refusal.{unless, accepted, bad_channel_count, bad_state}
+use Rattle.aec3_common.specs.Settings.{max_capture_channels, limits_ok, capture_channels_ok, sections_ok, limits_and_channels_refusal, sectioned_settings_refusal}
+use Rattle.aec3_common.specs.Calls.{run_by, lengths_ok, values_in_range, call_refusal}
 use Rattle.aec3_common.proofs.Choices.{passed, later-passed, first-of-passed, each-of-three, each-of-four}
 use Rattle.aec3_common.proofs.Ranges.{from-lo, to-hi}
 
-module _ (min maxL maxH : Float) (n : ℕ) (e : limitsAndChannelsRefusal min maxL maxH n ≡ accepted) where
-  pub limits-passed : limitsOk min maxL maxH ≡ true
-  unfolding limitsAndChannelsRefusal
-  limits-passed = passed (limitsOk min maxL maxH) 0 (unless (captureChannelsOk n) badChannelCount accepted) e
+module _ (min max_l max_h : Float) (n : ℕ) (e : limits_and_channels_refusal min max_l max_h n ≡ accepted) where
+  pub limits-passed : limits_ok min max_l max_h ≡ true
+  unfolding limits_and_channels_refusal
+  limits-passed = passed (limits_ok min max_l max_h) 0 (unless (capture_channels_ok n) bad_channel_count accepted) e
 
-  pub channels-passed : captureChannelsOk n ≡ true
-  unfolding limitsAndChannelsRefusal
+  pub channels-passed : capture_channels_ok n ≡ true
+  unfolding limits_and_channels_refusal
   channels-passed =
-      passed (captureChannelsOk n) 1 accepted
-      (later-passed (limitsOk min maxL maxH) 0 (unless (captureChannelsOk n) badChannelCount accepted) e)
+      passed (capture_channels_ok n) 1 accepted
+      (later-passed (limits_ok min max_l max_h) 0 (unless (capture_channels_ok n) bad_channel_count accepted) e)
 
   -- settings that pass have one to four channels
   pub some-channels : 1 ≤ n
-  some-channels = from-lo 1 maxCaptureChannels n channels-passed
+  some-channels = from-lo 1 max_capture_channels n channels-passed
 
   pub few-channels : n ≤ 4
-  few-channels = to-hi 1 maxCaptureChannels n channels-passed
+  few-channels = to-hi 1 max_capture_channels n channels-passed
 
-module _ (min maxL maxH : Float) (n sections length samples : ℕ) (e : sectionedSettingsRefusal min maxL maxH n sections length samples ≡ accepted) where
+module _ (min max_l max_h : Float) (n sections length samples : ℕ) (e : sectioned_settings_refusal min max_l max_h n sections length samples ≡ accepted) where
   -- settings with sections that pass break neither 1 nor 2
-  pub first-passed : limitsAndChannelsRefusal min maxL maxH n ≡ accepted
-  unfolding sectionedSettingsRefusal
-  first-passed = (first-of-passed (limitsAndChannelsRefusal min maxL maxH n) _ e).0
+  pub first-passed : limits_and_channels_refusal min max_l max_h n ≡ accepted
+  unfolding sectioned_settings_refusal
+  first-passed = (first-of-passed (limits_and_channels_refusal min max_l max_h n) _ e).0
 
   -- nor 3
-  pub sections-passed : sectionsOk sections length samples ≡ true
-  unfolding sectionedSettingsRefusal
-  sections-passed = passed (sectionsOk sections length samples) 2 accepted (first-of-passed (limitsAndChannelsRefusal min maxL maxH n) _ e).1
+  pub sections-passed : sections_ok sections length samples ≡ true
+  unfolding sectioned_settings_refusal
+  sections-passed = passed (sections_ok sections length samples) 2 accepted (first-of-passed (limits_and_channels_refusal min max_l max_h n) _ e).1
 
 -- an accepted update: a state that passes, as many flags, captures and residuals as its n channels ask, 65 renders, and all
 -- values from 0 to 2^100
 pub record UpdateOk (ok : Bool) (n : ℕ) (converged : List Bool) (render capture residual : List Float) : Type 0 where
   pub state : ok ≡ true
   pub flags : length converged ≡ n
-  pub longRender : length render ≡ 65
-  pub longCapture : length capture ≡ n * 65
-  pub longResidual : length residual ≡ n * 65
-  pub captureOk : valuesOk capture ≡ true
-  pub residualOk : valuesOk residual ≡ true
+  pub long_render : length render ≡ 65
+  pub long_capture : length capture ≡ n * 65
+  pub long_residual : length residual ≡ n * 65
+  pub capture_ok : values_ok capture ≡ true
+  pub residual_ok : values_ok residual ≡ true
 
 pub update-ok :
     (ok : Bool) (n channels : ℕ) (converged : List Bool) (render capture residual : List Float)
-    → callRefusal ok n channels converged render capture residual ≡ accepted → UpdateOk ok n converged render capture residual
-unfolding callRefusal
+    → call_refusal ok n channels converged render capture residual ≡ accepted → UpdateOk ok n converged render capture residual
+unfolding call_refusal
 update-ok ok n channels converged render capture residual e =
-    let lengths = lengthsOk channels converged render capture residual in
-    let values = valuesInRange render capture residual in
+    let lengths = lengths_ok channels converged render capture residual in
+    let values = values_in_range render capture residual in
     let counted = later-passed ok 19 (unless (eqb channels n) 21 (unless lengths 5 (unless values 6 0))) e in
     let measured = later-passed (eqb channels n) 20 (unless lengths 5 (unless values 6 0)) counted in
     let same = eqb-true channels n (passed (eqb channels n) 20 (unless lengths 5 (unless values 6 0)) counted) in
@@ -62,24 +62,24 @@ update-ok ok n channels converged render capture residual e =
     let good = passed values 5 0 (later-passed lengths 4 (unless values 6 0) measured) in
     let (flagged, rendered, captured, left) =
     each-of-four (eqb (length converged) channels) (eqb (length render) 65) (eqb (length capture) (channels * 65)) (eqb (length residual) (channels * 65)) long in
-    let (renderOk, captureOk, residualOk) = each-of-three (valuesOk render) (valuesOk capture) (valuesOk residual) good in
+    let (render_ok, capture_ok, residual_ok) = each-of-three (values_ok render) (values_ok capture) (values_ok residual) good in
     record {
       state = passed ok 19 (unless (eqb channels n) 21 (unless lengths 5 (unless values 6 0))) e;
       flags = rw same at (eqb-true (length converged) channels flagged);
-      longRender = eqb-true (length render) 65 rendered;
-      longCapture = rw same at (eqb-true (length capture) (channels * 65) captured);
-      longResidual = rw same at (eqb-true (length residual) (channels * 65) left);
-      captureOk = captureOk;
-      residualOk = residualOk;
+      long_render = eqb-true (length render) 65 rendered;
+      long_capture = rw same at (eqb-true (length capture) (channels * 65) captured);
+      long_residual = rw same at (eqb-true (length residual) (channels * 65) left);
+      capture_ok = capture_ok;
+      residual_ok = residual_ok;
     }
 
 -- an update of a state that number 20 lets pass is not refused under it
 pub update-not-20 :
     (n channels : ℕ) (converged : List Bool) (render capture residual : List Float)
-    → callRefusal true n channels converged render capture residual ≡ badState → ⊥
-unfolding callRefusal
+    → call_refusal true n channels converged render capture residual ≡ bad_state → ⊥
+unfolding call_refusal
 update-not-20 n channels converged render capture residual =
-    go (eqb channels n) (lengthsOk channels converged render capture residual) (valuesInRange render capture residual)
+    go (eqb channels n) (lengths_ok channels converged render capture residual) (values_in_range render capture residual)
   where
     go : (a b c : Bool) → unless a 21 (unless b 5 (unless c 6 0)) ≡ 20 → ⊥
     go true true true e = omega arith

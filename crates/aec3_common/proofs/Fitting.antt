@@ -42,15 +42,15 @@ pub clamped-between :
     (lo hi x : Float) → T (positive lo) → T (positive hi) → T (le lo hi) → T (fits binary32 lo) → T (fits binary32 hi)
     → T (number x) → T (fits binary32 x) → Between lo hi (clamped x lo hi)
 unfolding clamped
-clamped-between lo hi x p q order loFits hiFits some xFits = go (lt x lo) refl (lt hi x) refl
+clamped-between lo hi x p q order lo_fits hi_fits some x_fits = go (lt x lo) refl (lt hi x) refl
   where
     go : (less : Bool) → lt x lo ≡ less → (more : Bool) → lt hi x ≡ more → Between lo hi (cond less lo (cond more hi x))
-    go true e more f = record { least = level lo p; most = order; held = loFits }
-    go false e true f = record { least = order; most = level hi q; held = hiFits }
+    go true e more f = record { least = level lo p; most = order; held = lo_fits }
+    go false e true f = record { least = order; most = level hi q; held = hi_fits }
     go false e false f =
         let least = at-least-if-not-below lo x p some (failed e) in
         let finite = finite-if-not-above hi x q (above_of_le lo x p least) (failed f) in
-        record { least = least; most = at-most-if-not-above hi x q finite (failed f); held = xFits }
+        record { least = least; most = at-most-if-not-above hi x q finite (failed f); held = x_fits }
 
 -- ---- two that are level are one
 

@@ -12,11 +12,11 @@ use lib.Ieee.Order.{drop as dropped}
 use lib.Ieee.Positive.{positive, le→cross, through}
 use lib.Ieee.Scale.{grid, round_under}
 use lib.Ieee.Scale.{finite as is_finite}
-use Rattle.aec3_common.specs.Binary32.{zero32, greatestValue, greatestSum, within, valuesOk, moved}
+use Rattle.aec3_common.specs.Binary32.{zero32, greatest_value, greatest_sum, within, values_ok, moved}
 use Rattle.aec3_common.specs.Lists.{every}
-use Rattle.aec3_common.specs.Log2.{over, approxLog2}
-use Rattle.aec3_common.specs.Settings.{greatestErle}
-use Rattle.aec3_common.specs.Spectra.{sumFrom}
+use Rattle.aec3_common.specs.Log2.{over, approx_log2}
+use Rattle.aec3_common.specs.Settings.{greatest_erle}
+use Rattle.aec3_common.specs.Spectra.{sum_from}
 use Rattle.aec3_common.proofs.Choices.{and_left, and_right}
 use Rattle.aec3_common.proofs.Rounding.{holds, Signed, infinite, finite, round-signed, round_number}
 
@@ -68,7 +68,7 @@ round-up-to w c k some few whole =
 -- a number from 0 to k, and minus zero
 pub data Value (k : ℕ) : Float → Type 0 where
   plain : {x : Float} → UpTo k x → Value k x
-  minusZero : (e : ℤ) → Value k (fin true 0 e)
+  minus_zero : (e : ℤ) → Value k (fin true 0 e)
 
 -- what lies in 0 to 2^j
 value-at-most : (j : ℕ) (x : Float) → within (fin false 1 (pos j)) x ≡ true → Value (2 ^ j) x
@@ -84,7 +84,7 @@ value-at-most j x ok =
     go nan p q = absurd p
     go (inf true) p q = absurd p
     go (inf false) p q = absurd q
-    go (fin true zero e) p q = minusZero e
+    go (fin true zero e) p q = minus_zero e
     go (fin true (suc m) e) p q = absurd (none m e p)
     go (fin false m e) p q =
         plain
@@ -93,12 +93,12 @@ value-at-most j x ok =
         (le_trans (at_most (m * up e * 1) (1 * 2 ^ j * down e) q) (le_of_eq (ap (λ (z : ℕ). z * down e) (one-mul (2 ^ j)))))))
 
 -- what number 6 lets pass
-pub value-within : (x : Float) → within greatestValue x ≡ true → Value (2 ^ 100) x
+pub value-within : (x : Float) → within greatest_value x ≡ true → Value (2 ^ 100) x
 unfolding of_bits
 value-within = value-at-most 100
 
 -- what number 20 lets pass of a sum
-pub sum-within : (x : Float) → within greatestSum x ≡ true → Value (2 ^ 110) x
+pub sum-within : (x : Float) → within greatest_sum x ≡ true → Value (2 ^ 110) x
 unfolding of_bits
 sum-within = value-at-most 110
 
@@ -115,7 +115,7 @@ unfolding add sum
 add-up-to a b (up_to m e h) (plain (up_to n d l)) whole =
     round-up-to (m * up e * down d + n * up d * down e) (down e * down d) (a + b) (mul-pos (down_pos e) (down_pos d))
     (sum-few (m * up e) (n * up d) a b (down e) (down d) h l) whole
-add-up-to a b (up_to m e h) (minusZero d) whole =
+add-up-to a b (up_to m e h) (minus_zero d) whole =
     rw (zero-mul (up d), zero-mul (down e), le-ltb (m * up e * down d) 0 zero-le)
     (round-up-to (m * up e * down d - 0) (down e * down d) (a + b) (mul-pos (down_pos e) (down_pos d))
     (omega (arith, sum-few (m * up e) 0 a b (down e) (down d) h zero-le)) whole)
@@ -124,7 +124,7 @@ add-up-to a b (up_to m e h) (minusZero d) whole =
 pub add-to-up-to : (a b : ℕ) {x y : Float} → Value a x → UpTo b y → Whole (a + b) → UpTo (a + b) (add binary32 x y)
 unfolding add sum
 add-to-up-to a b (plain u) v whole = add-up-to a b u (plain v) whole
-add-to-up-to a b (minusZero e) (up_to n d l) whole =
+add-to-up-to a b (minus_zero e) (up_to n d l) whole =
     rw (zero-mul (up e), zero-mul (down d)) (go (ltb 0 (n * up d * down e)) refl)
   where
     under : (w : ℕ) → w ≤ n * up d * down e → UpTo (a + b) (round binary32 false w (down e * down d))
@@ -152,26 +152,26 @@ no-sum = up_to 0 (pos 0) (lit≤ tt)
 
 -- values added up in order, on a sum of n values
 pub sum-up-to :
-    (n : ℕ) (xs : List Float) {from : Float} → UpTo (n * 2 ^ 100) from → valuesOk xs ≡ true → n + length xs < 2 ^ 24
-    → UpTo ((n + length xs) * 2 ^ 100) (sumFrom from xs)
-unfolding sumFrom every
+    (n : ℕ) (xs : List Float) {from : Float} → UpTo (n * 2 ^ 100) from → values_ok xs ≡ true → n + length xs < 2 ^ 24
+    → UpTo ((n + length xs) * 2 ^ 100) (sum_from from xs)
+unfolding sum_from every
 sum-up-to n [] u ok few = rw add-zero u
 sum-up-to n (x ∷ xs) {from} u ok few =
-    let first = value-within x (and_left (within greatestValue x) (every (within greatestValue) xs) ok) in
+    let first = value-within x (and_left (within greatest_value x) (every (within greatest_value) xs) ok) in
     let whole : Whole (n * 2 ^ 100 + 2 ^ 100) = rw suc-mul at (whole_multiple (suc n) (omega arith)) in
     let more : UpTo (suc n * 2 ^ 100) (add binary32 from x) = rw suc-mul (add-up-to (n * 2 ^ 100) (2 ^ 100) u first whole) in
-    rw (add-suc, ← suc-add) (sum-up-to (suc n) xs more (and_right (within greatestValue x) (every (within greatestValue) xs) ok) (omega arith))
+    rw (add-suc, ← suc-add) (sum-up-to (suc n) xs more (and_right (within greatest_value x) (every (within greatest_value) xs) ok) (omega arith))
 
 -- a held sum may be any number up to 2^110
-pub up-to-within : {k : ℕ} {x : Float} → UpTo k x → k ≤ 2 ^ 110 → within greatestSum x ≡ true
+pub up-to-within : {k : ℕ} {x : Float} → UpTo k x → k ≤ 2 ^ 110 → within greatest_sum x ≡ true
 unfolding of_bits
 up-to-within (up_to m e h) few =
     let x = fin false m e in
     let least = le_of_values zero32 x 0 1 (m * up e) (down e) (lit< tt) (down_pos e) (refl, refl) (refl, refl) (omega arith) in
     let most =
-    le_of_values x greatestSum (m * up e) (down e) (2 ^ 110) 1 (down_pos e) (lit< tt) (refl, refl) (refl, refl)
+    le_of_values x greatest_sum (m * up e) (down e) (2 ^ 110) 1 (down_pos e) (lit< tt) (refl, refl) (refl, refl)
     (le_trans (le_of_eq (mul-one (m * up e))) (le_trans h (mul-le-mul_right (down e) few))) in
-    simp (is_true (le zero32 x) least, is_true (le x greatestSum) most)
+    simp (is_true (le zero32 x) least, is_true (le x greatest_sum) most)
 
 -- ---- ratios
 
@@ -247,7 +247,7 @@ less-finite n d m e less few =
 -- A number up to 100,000 that moves by a share of the difference to a number with a plus sign is a number. The share may be
 -- zero only towards a smaller one.
 pub moved-number :
-    (k : ℕ) (g : ℤ) (old : Float) {new : Float} → T (positive old) → T (le old greatestErle) → Signed false new
+    (k : ℕ) (g : ℤ) (old : Float) {new : Float} → T (positive old) → T (le old greatest_erle) → Signed false new
     → (eqb k 0 ≡ true → lt new old ≡ true) → T (number (moved old new (fin false k g)))
 unfolding moved sub lt is_nan of_bits
 moved-number k g nan p q new less = absurd p
@@ -256,7 +256,7 @@ moved-number k g (fin true m e) p q new less = absurd p
 moved-number k g (fin false m e) p q infinite less =
     plus-number m e (mul binary32 (fin false k g) (inf false)) (times-number k g (inf false) tt (λ z. absurd (false≢true (less z))))
 moved-number k g (fin false m e) p q (finite n d) less =
-    let few : m * up e ≤ 100000 * down e = le_trans (le_of_eq (sym (mul-one (m * up e)))) (le→cross (fin false m e) greatestErle p tt q) in
+    let few : m * up e ≤ 100000 * down e = le_trans (le_of_eq (sym (mul-one (m * up e)))) (le→cross (fin false m e) greatest_erle p tt q) in
     let change = sub binary32 (fin false n d) (fin false m e) in
     plus-number m e (mul binary32 (fin false k g) change)
     (times-number k g change
@@ -272,8 +272,8 @@ less-number infinite n d = tt
 less-number (finite m e) n d = sum_number binary32 false (m * up e * down d) true (n * up d * down e) (down e * down d)
 
 -- Log2 is a number, whatever the bits that it is taken of.
-pub log2-number : (x : Float) → T (number (approxLog2 x))
-unfolding approxLog2 of_int mul
+pub log2-number : (x : Float) → T (number (approx_log2 x))
+unfolding approx_log2 of_int mul
 log2-number x = less-number (scaled (round-signed binary32 false (to_bits binary32 x) 1)) 16638633 (negsuc 16)
   where
     scaled : {y : Float} → Signed false y → Signed false (mul binary32 y (over 1 23))

@@ -2,7 +2,7 @@
 use Rattle.std.proofs.Common.{◌≡◌, ℕ, zero, suc, ◌+◌, ◌<◌, ◌≤◌, Bool, true, false, cond, ◌&&◌, ltb, leb, List, map, length, get_or, set, sym, refl, ap, ◌∙◌, subst, le_refl, le_of_suc-le-suc, not-suc-le-zero, arith, length-set, get_or-set_other, get_or-set_same, ext_get_or, below_more, ltb-false, ltb-true, lt-ltb, leb-false, leb-true}
 use lib.ListN.{length-map}
 use Rattle.aec3_common.specs.Lists.{tab}
-use Rattle.aec3_common.specs.Spectra.{innerBand}
+use Rattle.aec3_common.specs.Spectra.{inner_band}
 use Rattle.aec3_common.proofs.Choices.{and_left, and_right, cond-by}
 
 pub length-tab : {A : Type 0} (n : ℕ) (f : ℕ → A) → length (tab n f) ≡ n
@@ -10,17 +10,17 @@ unfolding tab
 length-tab zero f = refl
 length-tab (suc n) f = ap suc (length-tab n (λ k. f (suc k)))
 
-pub getD-tab : {A : Type 0} (n : ℕ) (f : ℕ → A) (k : ℕ) (d : A) → k < n → get_or (tab n f) k d ≡ f k
+pub get_or-tab : {A : Type 0} (n : ℕ) (f : ℕ → A) (k : ℕ) (d : A) → k < n → get_or (tab n f) k d ≡ f k
 unfolding tab
-getD-tab zero f k d h = absurd (not-suc-le-zero h)
-getD-tab (suc n) f zero d h = refl
-getD-tab (suc n) f (suc k) d h = getD-tab n (λ j. f (suc j)) k d (le_of_suc-le-suc h)
+get_or-tab zero f k d h = absurd (not-suc-le-zero h)
+get_or-tab (suc n) f zero d h = refl
+get_or-tab (suc n) f (suc k) d h = get_or-tab n (λ j. f (suc j)) k d (le_of_suc-le-suc h)
 
 -- one of the first m entries, where only those come from f
-pub getD-tab-first :
+pub get_or-tab-first :
     {A : Type 0} (n m : ℕ) (f g : ℕ → A) (k : ℕ) (d : A)
     → m ≤ n → k < m → get_or (tab n (λ j. cond (ltb j m) (f j) (g j))) k d ≡ f k
-getD-tab-first n m f g k d few h = getD-tab n (λ j. cond (ltb j m) (f j) (g j)) k d (omega arith) ∙ rw (lt-ltb k m h)
+get_or-tab-first n m f g k d few h = get_or-tab n (λ j. cond (ltb j m) (f j) (g j)) k d (omega arith) ∙ rw (lt-ltb k m h)
 
 -- a list of n entries whose k-th is f k is tab n f
 pub tab-is :
@@ -28,11 +28,11 @@ pub tab-is :
     → length xs ≡ n → ((k : ℕ) → k < n → get_or xs k d ≡ f k) → xs ≡ tab n f
 tab-is n d f xs long at =
     ext_get_or d xs (tab n f) (long ∙ sym (length-tab n f))
-    (λ k b. let h : k < n = subst (λ (m : ℕ). k < m) long b in at k h ∙ sym (getD-tab n f k d h))
+    (λ k b. let h : k < n = subst (λ (m : ℕ). k < m) long b in at k h ∙ sym (get_or-tab n f k d h))
 
 -- tables with the same entries are the same
 pub tab-same : {A : Type 0} (n : ℕ) (d : A) (f g : ℕ → A) → ((k : ℕ) → k < n → f k ≡ g k) → tab n f ≡ tab n g
-tab-same n d f g same = tab-is n d g (tab n f) (length-tab n f) (λ k b. getD-tab n f k d b ∙ same k b)
+tab-same n d f g same = tab-is n d g (tab n f) (length-tab n f) (λ k b. get_or-tab n f k d b ∙ same k b)
 
 -- a list of records is as long as the list of what they hold, which is what is known of an array of them
 pub length-mapped : (A B : Type 0) (f : A → B) (l : List A) (n : ℕ) → length (map f l) ≡ n → length l ≡ n
@@ -121,5 +121,5 @@ stored-between {n = n} {d = d} {lo = lo} {hi = hi} {f = f} {xs = xs} {r = r} s h
 -- the loop over bands 1 to 63 has ended
 pub stored-inner :
     {A : Type 0} {d : A} {f : ℕ → A} {xs r : List A} {k : ℕ}
-    → Stored 65 d 1 64 f xs r k → 64 ≤ k → r ≡ tab 65 (λ j. cond (innerBand j) (f j) (get_or xs j d))
+    → Stored 65 d 1 64 f xs r k → 64 ≤ k → r ≡ tab 65 (λ j. cond (inner_band j) (f j) (get_or xs j d))
 stored-inner s h = stored-between s h

@@ -13,20 +13,20 @@ abbrev pub one32 : Float
 one32 = from_bits binary32 0x3f80_0000
 
 -- T: 44,015,068
-abbrev pub energyThreshold : Float
-energyThreshold = from_bits binary32 0x4c27_e777
+abbrev pub energy_threshold : Float
+energy_threshold = from_bits binary32 0x4c27_e777
 
 -- T times 65, rounded to 2,860,979,456: the threshold of a sum over all bands
-abbrev pub sumThreshold : Float
-sumThreshold = from_bits binary32 0x4f2a_8715
+abbrev pub sum_threshold : Float
+sum_threshold = from_bits binary32 0x4f2a_8715
 
 -- 2^100, the greatest spectrum or response value
-abbrev pub greatestValue : Float
-greatestValue = from_bits binary32 0x7180_0000
+abbrev pub greatest_value : Float
+greatest_value = from_bits binary32 0x7180_0000
 
 -- 2^110, the greatest held sum
-abbrev pub greatestSum : Float
-greatestSum = from_bits binary32 0x7680_0000
+abbrev pub greatest_sum : Float
+greatest_sum = from_bits binary32 0x7680_0000
 
 -- x, or the end of lo to hi that it lies beyond; a NaN stays. For lo ≤ hi this is Rust's f32::clamp.
 unfoldable pub clamped : Float → Float → Float → Float
@@ -45,17 +45,17 @@ unfoldable pub moved : Float → Float → Float → Float
 moved old new share = add binary32 old (mul binary32 share (sub binary32 new old))
 
 -- a number, not below lo nor above hi; a NaN fails
-abbrev pub numberFrom : Float → Float → Float → Bool
-numberFrom lo hi x = le lo x && le x hi
+abbrev pub number_from : Float → Float → Float → Bool
+number_from lo hi x = le lo x && le x hi
 
 -- a number from 0 to hi: negative zero passes, a NaN does not
 abbrev pub within : Float → Float → Bool
-within hi x = numberFrom zero32 hi x
+within hi x = number_from zero32 hi x
 
 -- number 6: every spectrum or response value lies in 0 to 2^100
-abbrev pub valuesOk : List Float → Bool
-valuesOk xs = every (within greatestValue) xs
+abbrev pub values_ok : List Float → Bool
+values_ok xs = every (within greatest_value) xs
 
 -- every held sum lies in 0 to 2^110
-abbrev pub sumsOk : List Float → Bool
-sumsOk xs = every (within greatestSum) xs
+abbrev pub sums_ok : List Float → Bool
+sums_ok xs = every (within greatest_sum) xs

@@ -1,7 +1,7 @@
 -- Calls of an ERLE estimator: lists of them, and which updates are turned away.
 use Rattle.std.specs.Prelude.{ℕ, ◌*◌, Bool, ◌&&◌, List, [], ◌∷◌, length, ◌==◌, Float}
-use Rattle.aec3_common.specs.Binary32.{valuesOk}
-use Rattle.aec3_common.specs.Refusal.{unless, accepted, badLength, badValue, badState, otherChannelCount}
+use Rattle.aec3_common.specs.Binary32.{values_ok}
+use Rattle.aec3_common.specs.Refusal.{unless, accepted, bad_length, bad_value, bad_state, other_channel_count}
 
 -- ---- lists of calls
 
@@ -18,22 +18,22 @@ run_by step s (c ∷ cs) = run_by step (step s c) cs
 -- ---- updates turned away
 
 -- one flag and 65 captures and residuals for each channel, 65 renders
-abbrev pub lengthsOk : ℕ → List Bool → List Float → List Float → List Float → Bool
-lengthsOk channels converged render capture residual =
+abbrev pub lengths_ok : ℕ → List Bool → List Float → List Float → List Float → Bool
+lengths_ok channels converged render capture residual =
     (length converged == channels)
     && length render == 65
     && length capture == channels * 65
     && length residual == channels * 65
 
 -- number 6, of render, capture and residual power
-abbrev pub valuesInRange : List Float → List Float → List Float → Bool
-valuesInRange render capture residual = valuesOk render && valuesOk capture && valuesOk residual
+abbrev pub values_in_range : List Float → List Float → List Float → Bool
+values_in_range render capture residual = values_ok render && values_ok capture && values_ok residual
 
 -- The first of 20, 21, 5 and 6, or 0. The state is told by whether number 20 lets it pass, and by its channel count.
-unfoldable pub callRefusal : Bool → ℕ → ℕ → List Bool → List Float → List Float → List Float → ℕ
-callRefusal stateOk count channels converged render capture residual =
-    unless stateOk badState
-    (unless (channels == count) otherChannelCount
-    (unless (lengthsOk channels converged render capture residual) badLength
-    (unless (valuesInRange render capture residual) badValue
+unfoldable pub call_refusal : Bool → ℕ → ℕ → List Bool → List Float → List Float → List Float → ℕ
+call_refusal state_ok count channels converged render capture residual =
+    unless state_ok bad_state
+    (unless (channels == count) other_channel_count
+    (unless (lengths_ok channels converged render capture residual) bad_length
+    (unless (values_in_range render capture residual) bad_value
     accepted)))

@@ -2,8 +2,8 @@
 use Rattle.std.specs.Prelude.{ℕ, ◌+◌, Bool, false, cond, ℤ, pos, negsuc, ◌-ℤ◌, ◌==◌, int_le, nat_lt}
 
 -- one more of what is counted; a count stays at 4,294,967,295
-unfoldable pub oneMore : ℕ → ℕ
-oneMore n = cond (nat_lt n 4294967295) (n + 1) n
+unfoldable pub one_more : ℕ → ℕ
+one_more n = cond (nat_lt n 4294967295) (n + 1) n
 
 -- a hold that is exactly 0
 abbrev pub is_zero : ℤ → Bool

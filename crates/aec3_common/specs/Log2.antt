@@ -5,7 +5,7 @@ use Rattle.std.specs.Float.Ieee.{of_int, mul, sub, lt}
 use Rattle.aec3_common.specs.declared.log2.Log2.{Log2}
 use Rattle.aec3_common.specs.declared.log2.Log2.TheVariants.{Value, Refused}
 use Rattle.aec3_common.specs.Binary32.{zero32}
-use Rattle.aec3_common.specs.Refusal.{unless, accepted, badLog2Input}
+use Rattle.aec3_common.specs.Refusal.{unless, accepted, bad_log2_input}
 
 -- a whole number rounded to binary32, ties to even
 abbrev pub rounded : ℕ → Float
@@ -16,25 +16,25 @@ abbrev pub over : ℕ → ℕ → Float
 over m k = fin false m (neg_ℤ (pos k))
 
 -- The input's 32 bits, as a whole number, are rounded to binary32, multiplied by 2^-23, and 16,638,633/131,072 is subtracted.
-unfoldable pub approxLog2 : Float → Float
-approxLog2 x = sub binary32 (mul binary32 (rounded (to_bits binary32 x)) (over 1 23)) (over 16638633 17)
+unfoldable pub approx_log2 : Float → Float
+approx_log2 x = sub binary32 (mul binary32 (rounded (to_bits binary32 x)) (over 1 23)) (over 16638633 17)
 
 -- number 7: log2 of NaN, zero or less; plus infinity is accepted
-abbrev pub log2Refusal : Float → ℕ
-log2Refusal x = unless (lt zero32 x) badLog2Input accepted
+abbrev pub log2_refusal : Float → ℕ
+log2_refusal x = unless (lt zero32 x) bad_log2_input accepted
 
 -- the case of an answer: number 0 has the value, any other number is a refusal
-abbrev pub log2Case : ℕ → Float → Log2
-log2Case number value = cond (number == accepted) (Value value) (Refused number)
+abbrev pub log2_case : ℕ → Float → Log2
+log2_case number value = cond (number == accepted) (Value value) (Refused number)
 
-unfoldable pub log2Answer : Float → Log2
-log2Answer x = log2Case (log2Refusal x) (approxLog2 x)
+unfoldable pub log2_answer : Float → Log2
+log2_answer x = log2_case (log2_refusal x) (approx_log2 x)
 
 -- and back: the number and the value's bits of each case
-abbrev pub log2Number : Log2 → ℕ
-log2Number (Value x) = accepted
-log2Number (Refused n) = n
+abbrev pub log2_number : Log2 → ℕ
+log2_number (Value x) = accepted
+log2_number (Refused n) = n
 
-abbrev pub log2Bits : Log2 → List ℕ
-log2Bits (Value x) = to_bits binary32 x ∷ []
-log2Bits (Refused n) = []
+abbrev pub log2_bits : Log2 → List ℕ
+log2_bits (Value x) = to_bits binary32 x ∷ []
+log2_bits (Refused n) = []

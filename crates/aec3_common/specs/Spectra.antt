@@ -10,20 +10,20 @@ unfoldable pub part : List Float → ℕ → List Float
 part spectra ch = take 65 (drop (ch * 65) spectra)
 
 -- a channel's number in a band
-abbrev pub bandOf : List Float → ℕ → ℕ → Float
-bandOf spectra ch k = slice_index_or (part spectra ch) k nan
+abbrev pub band_of : List Float → ℕ → ℕ → Float
+band_of spectra ch k = slice_index_or (part spectra ch) k nan
 
 -- bands 1 to 63
-abbrev pub innerBand : ℕ → Bool
-innerBand k = nat_lt 0 k && nat_lt k 64
+abbrev pub inner_band : ℕ → Bool
+inner_band k = nat_lt 0 k && nat_lt k 64
 
 -- the band whose figure a band shows: its own, but bands 0 and 64 copy 1 and 63
-abbrev pub shownBand : ℕ → ℕ
-shownBand k = cond (k == 0) 1 (cond (k == 64) 63 k)
+abbrev pub shown_band : ℕ → ℕ
+shown_band k = cond (k == 0) 1 (cond (k == 64) 63 k)
 
 -- a spectrum with bands 0 and 64 overwritten by 1 and 63
-unfoldable pub endsCopied : List Float → List Float
-endsCopied s = tab (length s) (λ k. get_or s (shownBand k) nan)
+unfoldable pub ends_copied : List Float → List Float
+ends_copied s = tab (length s) (λ k. get_or s (shown_band k) nan)
 
 -- the channels whose flag is set, counted from ch on
 unfoldable pub flagged : ℕ → List Bool → List ℕ
@@ -31,15 +31,15 @@ flagged ch [] = []
 flagged ch (flag ∷ flags) = cond flag (ch ∷ flagged (suc ch) flags) (flagged (suc ch) flags)
 
 -- the numbers added up in order, each sum rounded
-unfoldable pub sumFrom : Float → List Float → Float
-sumFrom from [] = from
-sumFrom from (x ∷ xs) = sumFrom (add binary32 from x) xs
+unfoldable pub sum_from : Float → List Float → Float
+sum_from from [] = from
+sum_from from (x ∷ xs) = sum_from (add binary32 from x) xs
 
 -- beginning at plus zero
 abbrev pub sum : List Float → Float
-sum xs = sumFrom zero32 xs
+sum xs = sum_from zero32 xs
 
 -- the greatest of a number and those after it; an earlier one stays unless a later one is above it
-unfoldable pub greatestFrom : Float → List Float → Float
-greatestFrom x [] = x
-greatestFrom x (y ∷ ys) = greatestFrom (larger x y) ys
+unfoldable pub greatest_from : Float → List Float → Float
+greatest_from x [] = x
+greatest_from x (y ∷ ys) = greatest_from (larger x y) ys

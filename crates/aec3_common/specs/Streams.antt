@@ -2,5 +2,5 @@
 use Rattle.std.specs.Prelude.{Bool, cond, ◌&&◌, List, Float}
 
 -- `erle` answers one of two streams: the compensated one where it is asked for and onset detection is on, else the plain one
-unfoldable pub erleOf : List Float → List Float → Bool → Bool → List Float
-erleOf plain compensated onsetCompensated onsetDetection = cond (onsetCompensated && onsetDetection) compensated plain
+unfoldable pub erle_of : List Float → List Float → Bool → Bool → List Float
+erle_of plain compensated onset_compensated onset_detection = cond (onset_compensated && onset_detection) compensated plain

@@ -1,6 +1,6 @@
 // binary32 helpers, each operation rounded once.
 ghost use Rattle.std.specs.Prelude.{◌≡◌};
-ghost use Rattle.aec3_common.specs.Binary32.{clamped, within, valuesOk, sumsOk};
+ghost use Rattle.aec3_common.specs.Binary32.{clamped, within, values_ok, sums_ok};
 ghost use Rattle.aec3_common.specs.Binary32.{larger as Binary32·larger, smaller as Binary32·smaller, moved as Binary32·moved};
 ghost use Rattle.aec3_common.specs.Lists.{every};
 
@@ -56,14 +56,14 @@ pub fn is_within(x: f32, hi: f32) -> bool
 
 // Number 6.
 pub fn values_ok(xs: &[f32]) -> bool
-    ensures { result ≡ valuesOk xs.now }
+    ensures { result ≡ values_ok xs.now }
 {
     all_within(xs, GREATEST_VALUE)
 }
 
 // Whether every value can be a held sum.
 pub fn sums_ok(xs: &[f32]) -> bool
-    ensures { result ≡ sumsOk xs.now }
+    ensures { result ≡ sums_ok xs.now }
 {
     all_within(xs, GREATEST_SUM)
 }

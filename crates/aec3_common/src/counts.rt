@@ -1,11 +1,11 @@
 // Counts and holds, with the ends at which they stay.
 ghost use Rattle.std.specs.Prelude.{◌≡◌};
-ghost use Rattle.aec3_common.specs.Counts.{oneMore, fallen as Counts·fallen};
+ghost use Rattle.aec3_common.specs.Counts.{one_more, fallen as Counts·fallen};
 
 // One more of what is counted.
-#[tactic(auto, unfolding(crate::specs::Counts::oneMore))]
+#[tactic(auto, unfolding(crate::specs::Counts::one_more))]
 pub fn one_more(n: u32) -> u32
-    ensures { result ≡ oneMore n }
+    ensures { result ≡ one_more n }
 {
     if n < 4_294_967_295 { n + 1 } else { n }
 }

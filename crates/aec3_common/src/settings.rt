@@ -1,7 +1,7 @@
 // The settings of an ERLE estimator, and what turns them away.
 ghost use Rattle.std.specs.Prelude.{◌≡◌};
-ghost use Rattle.aec3_common.specs.Refusal.{fromTo};
-ghost use Rattle.aec3_common.specs.Settings.{headroomBlocks, limitsOk, captureChannelsOk, renderChannelsOk, rangesOk, sectionsOk, limitsAndChannelsRefusal, sectionedSettingsRefusal, settingsRefusal};
+ghost use Rattle.aec3_common.specs.Refusal.{from_to};
+ghost use Rattle.aec3_common.specs.Settings.{headroom_blocks, limits_ok, capture_channels_ok, render_channels_ok, ranges_ok, sections_ok, limits_and_channels_refusal, sectioned_settings_refusal, settings_refusal};
 
 use crate::BLOCK_SIZE;
 use crate::refusal::{ACCEPTED, BAD_CHANNEL_COUNT, BAD_LIMITS, BAD_SECTIONS};
@@ -35,21 +35,21 @@ pub struct ErleSettings {
 
 // Whether n lies in lo to hi.
 fn from_to(lo: usize, hi: usize, n: usize) -> bool
-    ensures { result ≡ fromTo lo hi n }
+    ensures { result ≡ from_to lo hi n }
 {
     (lo <= n) & (n <= hi)
 }
 
 // Headroom samples as whole blocks.
 pub fn headroom_blocks(samples: usize) -> usize
-    ensures { result ≡ headroomBlocks samples }
+    ensures { result ≡ headroom_blocks samples }
 {
     samples / BLOCK_SIZE
 }
 
 // Number 1: 1 <= min <= max_l, max_h <= 100,000; a NaN breaks it.
 pub fn limits_ok(min: f32, max_l: f32, max_h: f32) -> bool
-    ensures { result ≡ limitsOk min max_l max_h }
+    ensures { result ≡ limits_ok min max_l max_h }
 {
     (1.0 <= min)
         & (min <= max_l)
@@ -60,20 +60,20 @@ pub fn limits_ok(min: f32, max_l: f32, max_h: f32) -> bool
 
 // Number 2, of capture channels.
 pub fn capture_channels_ok(n: usize) -> bool
-    ensures { result ≡ captureChannelsOk n }
+    ensures { result ≡ capture_channels_ok n }
 {
     from_to(1, MAX_CAPTURE_CHANNELS, n)
 }
 
 // Number 2, of render channels.
 pub fn render_channels_ok(n: usize) -> bool
-    ensures { result ≡ renderChannelsOk n }
+    ensures { result ≡ render_channels_ok n }
 {
     from_to(1, MAX_RENDER_CHANNELS, n)
 }
 
 fn ranges_ok(sections: usize, length: usize, samples: usize) -> bool
-    ensures { result ≡ rangesOk sections length samples }
+    ensures { result ≡ ranges_ok sections length samples }
 {
     from_to(1, MAX_SECTIONS, sections)
         & from_to(1, MAX_FILTER_LENGTH_BLOCKS, length)
@@ -81,9 +81,9 @@ fn ranges_ok(sections: usize, length: usize, samples: usize) -> bool
 }
 
 // Number 3. The sum is made only where it cannot wrap.
-#[tactic(auto, unfolding(crate::specs::Settings::sectionsOk))]
+#[tactic(auto, unfolding(crate::specs::Settings::sections_ok))]
 pub fn sections_ok(sections: usize, length: usize, samples: usize) -> bool
-    ensures { result ≡ sectionsOk sections length samples }
+    ensures { result ≡ sections_ok sections length samples }
 {
     if ranges_ok(sections, length, samples) {
         (sections <= 1) | (sections + headroom_blocks(samples) <= length)
@@ -93,9 +93,9 @@ pub fn sections_ok(sections: usize, length: usize, samples: usize) -> bool
 }
 
 // The first of 1 and 2, or 0.
-#[tactic(auto, unfolding(crate::specs::Settings::limitsAndChannelsRefusal))]
+#[tactic(auto, unfolding(crate::specs::Settings::limits_and_channels_refusal))]
 pub fn limits_and_channels_refusal(min: f32, max_l: f32, max_h: f32, channels: usize) -> u32
-    ensures { result ≡ limitsAndChannelsRefusal min max_l max_h channels }
+    ensures { result ≡ limits_and_channels_refusal min max_l max_h channels }
 {
     if !limits_ok(min, max_l, max_h) {
         BAD_LIMITS
@@ -107,7 +107,7 @@ pub fn limits_and_channels_refusal(min: f32, max_l: f32, max_h: f32, channels: u
 }
 
 // The first of 1, 2 and 3, or 0.
-#[tactic(auto, unfolding(crate::specs::Settings::sectionedSettingsRefusal))]
+#[tactic(auto, unfolding(crate::specs::Settings::sectioned_settings_refusal))]
 pub fn sectioned_settings_refusal(
     min: f32,
     max_l: f32,
@@ -117,7 +117,7 @@ pub fn sectioned_settings_refusal(
     length: usize,
     samples: usize,
 ) -> u32
-    ensures { result ≡ sectionedSettingsRefusal min max_l max_h channels sections length samples }
+    ensures { result ≡ sectioned_settings_refusal min max_l max_h channels sections length samples }
 {
     let refused = limits_and_channels_refusal(min, max_l, max_h, channels);
     if refused != ACCEPTED {
@@ -131,9 +131,9 @@ pub fn sectioned_settings_refusal(
 
 impl ErleSettings {
     // The first of 1, 2 and 3 that the settings break, or 0.
-    #[tactic(auto, unfolding(crate::specs::Settings::settingsRefusal))]
+    #[tactic(auto, unfolding(crate::specs::Settings::settings_refusal))]
     pub fn refusal(self) -> u32
-        ensures { result ≡ settingsRefusal self }
+        ensures { result ≡ settings_refusal self }
     {
         sectioned_settings_refusal(
             self.min,

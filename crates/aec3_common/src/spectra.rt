@@ -1,6 +1,6 @@
 // Spectra of 65 bands.
 ghost use Rattle.std.specs.Prelude.{◌≡◌, ◌+◌, ◌-◌, ◌*◌, ◌≤◌, if◌then◌else◌, ◌==◌, nat_le, nat_lt};
-ghost use Rattle.aec3_common.specs.Spectra.{endsCopied, part as Spectra·part, sum as Spectra·sum};
+ghost use Rattle.aec3_common.specs.Spectra.{ends_copied, part as Spectra·part, sum as Spectra·sum};
 
 // Whether so many numbers are `count` spectra. The product could wrap, and is not made.
 pub fn are_spectra(numbers: usize, count: usize) -> bool
@@ -39,7 +39,7 @@ pub fn part(spectra: &[f32], ch: usize) -> &[f32]
 
 // Bands 0 and 64 copy 1 and 63.
 pub fn copy_ends(s: &mut [f32; 65])
-    ensures { s.new ≡ endsCopied s.old }
+    ensures { s.new ≡ ends_copied s.old }
 {
     let second = s[1];
     let second_last = s[63];

@@ -10,10 +10,10 @@ use lib.Dec.{leb, ltb}
 use lib.Ieee.{Float, binary32, add}
 use lib.ListN.{get_or}
 use Rattle.aec3_common.specs.Lists.{tab, every}
-use Rattle.aec3_common.specs.Spectra.{sumFrom}
+use Rattle.aec3_common.specs.Spectra.{sum_from}
 use Rattle.aec3_common.proofs.Choices.{and_left, and_right, cond_has}
-use Rattle.filter_sections.specs.Subbands.{laterBegins, subbandBegin, subbandBands}
-use Rattle.correction_factors.specs.Factors.{leastFrom, leastActive, ofSubband}
+use Rattle.filter_sections.specs.Subbands.{later_begins, subband_begin, subband_bands}
+use Rattle.correction_factors.specs.Factors.{least_from, least_active, of_subband}
 
 -- What a loop knows at k that takes the entries from begin to below end one by one: its total is that of the entries before k.
 pub record Taken {A B : Type 0} (total : List A → B) (f : ℕ → A) (begin end k : ℕ) (r : B) : Type 0 where
@@ -50,22 +50,22 @@ module _ {A B : Type 0} (total : List A → B) (f : ℕ → A) (begin end : ℕ)
 
 -- a sum of one number more
 pub sum-last :
-    (from : Float) (n : ℕ) (f : ℕ → Float) → sumFrom from (tab (suc n) f) ≡ add binary32 (sumFrom from (tab n f)) (f n)
-unfolding sumFrom tab
+    (from : Float) (n : ℕ) (f : ℕ → Float) → sum_from from (tab (suc n) f) ≡ add binary32 (sum_from from (tab n f)) (f n)
+unfolding sum_from tab
 sum-last from zero f = refl
 sum-last from (suc n) f = sum-last (add binary32 from (f zero)) n (λ k. f (suc k))
 
 -- the least of one number more
 pub least-last :
     (m n : ℕ) (f : ℕ → ℕ)
-    → leastFrom m (tab (suc n) f) ≡ cond (ltb (f n) (leastFrom m (tab n f))) (f n) (leastFrom m (tab n f))
-unfolding leastFrom tab
+    → least_from m (tab (suc n) f) ≡ cond (ltb (f n) (least_from m (tab n f))) (f n) (least_from m (tab n f))
+unfolding least_from tab
 least-last m zero f = refl
 least-last m (suc n) f = least-last (cond (ltb (f zero) m) (f zero) m) n (λ k. f (suc k))
 
 -- the least is not above the first
-pub least_under : (n : ℕ) (ms : List ℕ) → leastFrom n ms ≤ n
-unfolding leastFrom
+pub least_under : (n : ℕ) (ms : List ℕ) → least_from n ms ≤ n
+unfolding least_from
 least_under n [] = le_refl n
 least_under n (m ∷ ms) =
     le_trans (least_under (cond (ltb m n) m n) ms)
@@ -79,9 +79,9 @@ entry-within (n ∷ ns) zero e = leb-true n 65 (and_left (leb n 65) (every (λ n
 entry-within (n ∷ ns) (suc k) e = entry-within ns k (and_right (leb n 65) (every (λ n. leb n 65) ns) e)
 
 -- no subband ends behind the last band
-pub ends-within : (subband : ℕ) → (subbandBands subband).end ≤ 65
-unfolding subbandBands subbandBegin every
-ends-within subband = entry-within (1 ∷ laterBegins) (subband + 1) refl
+pub ends-within : (subband : ℕ) → (subband_bands subband).end ≤ 65
+unfolding subband_bands subband_begin every
+ends-within subband = entry-within (1 ∷ later_begins) (subband + 1) refl
 
 -- what every entry of a table has, and its default, an entry at any place has
 tab-has :
@@ -94,8 +94,8 @@ tab-has P (suc n) f d p each (suc k) = tab-has P n (λ j. f (suc j)) d p (λ j. 
 -- the least active section of a subband is one of eight
 pub least-of-eight :
     (sections : ℕ) (active : List ℕ) → sections ≤ 8
-    → (subband : ℕ) → get_or (tab 6 (λ s. leastActive sections active s)) subband 0 < 8
-unfolding leastActive
+    → (subband : ℕ) → get_or (tab 6 (λ s. least_active sections active s)) subband 0 < 8
+unfolding least_active
 least-of-eight sections active few =
-    tab-has (λ n. n < 8) 6 (λ s. leastActive sections active s) 0 (omega arith)
-    (λ s. omega (arith, least_under (sections - 1) (ofSubband 0 active s)))
+    tab-has (λ n. n < 8) 6 (λ s. least_active sections active s) 0 (omega arith)
+    (λ s. omega (arith, least_under (sections - 1) (of_subband 0 active s)))

@@ -13,51 +13,51 @@ use Rattle.aec3_common.specs.Binary32.{clamped}
 use Rattle.aec3_common.specs.Lists.{tab, every}
 use Rattle.aec3_common.proofs.Choices.{and_left, and_right, cond_has}
 use Rattle.aec3_common.proofs.Every.{every-at}
-use Rattle.aec3_common.proofs.Tables.{length-tab, getD-tab, tab-is, tab-same}
-use Rattle.filter_sections.specs.Subbands.{subbandBegin, bandToSubband, maxErle}
+use Rattle.aec3_common.proofs.Tables.{length-tab, get_or-tab, tab-is, tab-same}
+use Rattle.filter_sections.specs.Subbands.{subband_begin, band_to_subband, max_erle}
 use Rattle.correction_factors.specs.Factors.{entry_of}
-use Rattle.correction_factors.specs.Steps.{firstBand, factorsPut, factorsOf, correctedBy}
-use Rattle.correction_factors.specs.Streams.{ownOr63, factorOf, corrected, lastCopied}
+use Rattle.correction_factors.specs.Steps.{first_band, factors_put, factors_of, corrected_by}
+use Rattle.correction_factors.specs.Streams.{own_or_63, factor_of, corrected, last_copied}
 
 -- ---- bands and subbands
 
 -- whether a band stands from a subband's first band on, and below the next one's
-abbrev standsIn : ℕ → ℕ → Bool
-standsIn s k = leb (firstBand s) k && ltb k (firstBand (s + 1))
+abbrev stands_in : ℕ → ℕ → Bool
+stands_in s k = leb (first_band s) k && ltb k (first_band (s + 1))
 
 -- these are the bands that map to it, computed over all bands and subbands
-mapped : tab 65 (λ k. tab 6 (λ s. standsIn s k)) ≡ tab 65 (λ k. tab 6 (λ s. eqb (bandToSubband k) s))
-unfolding tab firstBand subbandBegin bandToSubband
+mapped : tab 65 (λ k. tab 6 (λ s. stands_in s k)) ≡ tab 65 (λ k. tab 6 (λ s. eqb (band_to_subband k) s))
+unfolding tab first_band subband_begin band_to_subband
 mapped = refl
 
 entry : (f : ℕ → ℕ → Bool) (s k : ℕ) → s < 6 → k < 65 → get_or (get_or (tab 65 (λ k. tab 6 (λ s. f s k))) k []) s false ≡ f s k
-entry f s k few b = rw (getD-tab 65 (λ k. tab 6 (λ s. f s k)) k [] b) (getD-tab 6 (λ s. f s k) s false few)
+entry f s k few b = rw (get_or-tab 65 (λ k. tab 6 (λ s. f s k)) k [] b) (get_or-tab 6 (λ s. f s k) s false few)
 
-pub maps-to : (s k : ℕ) → s < 6 → k < 65 → firstBand s ≤ k → k < firstBand (s + 1) → bandToSubband k ≡ s
+pub maps-to : (s k : ℕ) → s < 6 → k < 65 → first_band s ≤ k → k < first_band (s + 1) → band_to_subband k ≡ s
 maps-to s k few b from to =
-    eqb-true (bandToSubband k) s
-    (sym (entry (λ s k. eqb (bandToSubband k) s) s k few b)
+    eqb-true (band_to_subband k) s
+    (sym (entry (λ s k. eqb (band_to_subband k) s) s k few b)
     ∙ ap (λ (t : List (List Bool)). get_or (get_or t k []) s false) (sym mapped)
-    ∙ entry standsIn s k few b
-    ∙ rw (le-leb (firstBand s) k from, lt-ltb k (firstBand (s + 1)) to))
+    ∙ entry stands_in s k few b
+    ∙ rw (le-leb (first_band s) k from, lt-ltb k (first_band (s + 1)) to))
 
 -- the subbands begin one behind the other, and none behind the last band
-firsts : every (λ s. leb (firstBand s) (firstBand (s + 1)) && leb (firstBand (s + 1)) 65) (tab 6 (λ s. s)) ≡ true
-unfolding every tab firstBand subbandBegin
+firsts : every (λ s. leb (first_band s) (first_band (s + 1)) && leb (first_band (s + 1)) 65) (tab 6 (λ s. s)) ≡ true
+unfolding every tab first_band subband_begin
 firsts = refl
 
 module _ (s : ℕ) (few : s < 6) where
-  in_order : (leb (firstBand s) (firstBand (s + 1)) ≡ true) × (leb (firstBand (s + 1)) 65 ≡ true)
+  in_order : (leb (first_band s) (first_band (s + 1)) ≡ true) × (leb (first_band (s + 1)) 65 ≡ true)
   in_order =
-      let test : ℕ → Bool = λ j. leb (firstBand j) (firstBand (j + 1)) && leb (firstBand (j + 1)) 65 in
+      let test : ℕ → Bool = λ j. leb (first_band j) (first_band (j + 1)) && leb (first_band (j + 1)) 65 in
       let at = every-at test (tab 6 (λ j. j)) 0 s firsts (omega (arith, length-tab 6 (λ (j : ℕ). j))) in
-      let here : test s ≡ true = rw (getD-tab 6 (λ j. j) s 0 few) at at in
-      (and_left (leb (firstBand s) (firstBand (s + 1))) _ here, and_right (leb (firstBand s) (firstBand (s + 1))) _ here)
+      let here : test s ≡ true = rw (get_or-tab 6 (λ j. j) s 0 few) at at in
+      (and_left (leb (first_band s) (first_band (s + 1))) _ here, and_right (leb (first_band s) (first_band (s + 1))) _ here)
 
-  pub first-rises : firstBand s ≤ firstBand (s + 1)
+  pub first-rises : first_band s ≤ first_band (s + 1)
   first-rises = leb-true _ _ in_order.0
 
-  pub first-within : firstBand (s + 1) ≤ 65
+  pub first-within : first_band (s + 1) ≤ 65
   first-within = leb-true _ _ in_order.1
 
 -- ---- the factors of the bands
@@ -66,47 +66,47 @@ module _ (s : ℕ) (few : s < 6) where
 pub record Chosen (factors : List Float) (active : List ℕ) (r : List Float) (s : ℕ) : Type 0 where
   pub to : s ≤ 6
   pub long : length r ≡ 65
-  pub done : (k : ℕ) → k < firstBand s → get_or r k nan ≡ factorOf factors active k
+  pub done : (k : ℕ) → k < first_band s → get_or r k nan ≡ factor_of factors active k
 
 pub chosen_none : (factors : List Float) (active : List ℕ) (r : List Float) → length r ≡ 65 → Chosen factors active r 0
-unfolding firstBand
+unfolding first_band
 chosen_none factors active r long = record { to = omega arith; long = long; done = λ k h. absurd (omega arith) }
 
 pub chosen_more :
     {factors : List Float} {active : List ℕ} {r t : List Float} {s : ℕ}
-    → Chosen factors active r s → s < 6 → t ≡ factorsPut factors active s (firstBand s) (firstBand (s + 1)) r
+    → Chosen factors active r s → s < 6 → t ≡ factors_put factors active s (first_band s) (first_band (s + 1)) r
     → Chosen factors active t (s + 1)
-unfolding factorsPut factorOf
+unfolding factors_put factor_of
 chosen_more {factors} {active} {r} {t} {s} c few e =
     record {
       to = omega arith;
       long = ap length e ∙ length-tab 65 _;
-      done = λ k h. ap (λ (l : List Float). get_or l k nan) e ∙ getD-tab 65 _ k nan (inside k h) ∙ at k h (leb (firstBand s) k) refl;
+      done = λ k h. ap (λ (l : List Float). get_or l k nan) e ∙ get_or-tab 65 _ k nan (inside k h) ∙ at k h (leb (first_band s) k) refl;
     }
   where
-    inside : (k : ℕ) → k < firstBand (s + 1) → k < 65
+    inside : (k : ℕ) → k < first_band (s + 1) → k < 65
     inside k h = omega (arith, first-within s few)
 
     at :
-        (k : ℕ) → k < firstBand (s + 1) → (q : Bool) → leb (firstBand s) k ≡ q
-        → cond (q && ltb k (firstBand (s + 1))) (entry_of factors (get_or active k 0) s) (get_or r k nan) ≡ factorOf factors active k
+        (k : ℕ) → k < first_band (s + 1) → (q : Bool) → leb (first_band s) k ≡ q
+        → cond (q && ltb k (first_band (s + 1))) (entry_of factors (get_or active k 0) s) (get_or r k nan) ≡ factor_of factors active k
     at k h true p =
-        rw (lt-ltb k (firstBand (s + 1)) h, maps-to s k few (inside k h) (leb-true (firstBand s) k p) h)
-    at k h false p = c.done k (leb-false (firstBand s) k p)
+        rw (lt-ltb k (first_band (s + 1)) h, maps-to s k few (inside k h) (leb-true (first_band s) k p) h)
+    at k h false p = c.done k (leb-false (first_band s) k p)
 
-pub chosen-all : {factors : List Float} {active : List ℕ} {r : List Float} {s : ℕ} → Chosen factors active r s → 6 ≤ s → r ≡ factorsOf factors active
-unfolding factorsOf firstBand subbandBegin
+pub chosen-all : {factors : List Float} {active : List ℕ} {r : List Float} {s : ℕ} → Chosen factors active r s → 6 ≤ s → r ≡ factors_of factors active
+unfolding factors_of first_band subband_begin
 chosen-all {factors} {active} {r} {s} c over =
     let six : s ≡ 6 = omega (arith, c.to) in
-    tab-is 65 nan (λ k. factorOf factors active k) r c.long (λ k b. c.done k (rw six b))
+    tab-is 65 nan (λ k. factor_of factors active k) r c.long (λ k b. c.done k (rw six b))
 
 -- ---- the last band
 
 -- after the last band is copied
-pub last-copied : (s : List Float) → set s 64 (get_or s 63 nan) ≡ lastCopied s
-unfolding lastCopied
+pub last-copied : (s : List Float) → set s 64 (get_or s 63 nan) ≡ last_copied s
+unfolding last_copied
 last-copied s =
-    tab-is (length s) nan (λ j. get_or s (ownOr63 j) nan) (set s 64 (get_or s 63 nan)) (length-set s 64 (get_or s 63 nan))
+    tab-is (length s) nan (λ j. get_or s (own_or_63 j) nan) (set s 64 (get_or s 63 nan)) (length-set s 64 (get_or s 63 nan))
     (λ k b. at k b (eqb k 64) refl)
   where
     at : (k : ℕ) → k < length s → (q : Bool) → eqb k 64 ≡ q → get_or (set s 64 (get_or s 63 nan)) k nan ≡ get_or s (cond q 63 k) nan
@@ -117,12 +117,12 @@ last-copied s =
 
 -- an average corrected band by band, and then the last band copied
 pub corrected-is :
-    (min maxL maxH : Float) (factors : List Float) (active : List ℕ) (average : List Float)
-    → lastCopied (correctedBy min maxL maxH (factorsOf factors active) average) ≡ corrected min maxL maxH factors active average
-unfolding lastCopied correctedBy factorsOf corrected
-corrected-is min maxL maxH factors active average =
-    rw (length-tab 65 (λ k. clamped (mul binary32 (get_or average k nan) (get_or (tab 65 (λ k. factorOf factors active k)) k nan)) min (maxErle maxL maxH k)))
-    (tab-same 65 nan _ _ (λ j b. let inside : ownOr63 j < 65 = own-inside j b in rw (getD-tab 65 _ (ownOr63 j) nan inside, getD-tab 65 _ (ownOr63 j) nan inside)))
+    (min max_l max_h : Float) (factors : List Float) (active : List ℕ) (average : List Float)
+    → last_copied (corrected_by min max_l max_h (factors_of factors active) average) ≡ corrected min max_l max_h factors active average
+unfolding last_copied corrected_by factors_of corrected
+corrected-is min max_l max_h factors active average =
+    rw (length-tab 65 (λ k. clamped (mul binary32 (get_or average k nan) (get_or (tab 65 (λ k. factor_of factors active k)) k nan)) min (max_erle max_l max_h k)))
+    (tab-same 65 nan _ _ (λ j b. let inside : own_or_63 j < 65 = own-inside j b in rw (get_or-tab 65 _ (own_or_63 j) nan inside, get_or-tab 65 _ (own_or_63 j) nan inside)))
   where
-    own-inside : (j : ℕ) → j < 65 → ownOr63 j < 65
+    own-inside : (j : ℕ) → j < 65 → own_or_63 j < 65
     own-inside j b = cond_has (λ n. n < 65) (eqb j 64) (λ e. omega arith) (λ e. b)

@@ -11,13 +11,13 @@ use lib.ListN.{length, get_or, set, length-set}
 use lib.Seq.{get_or-set_same, get_or-set_other}
 use Rattle.aec3_common.proofs.Choices.{cond-by}
 use Rattle.aec3_common.proofs.Tables.{tab-is, tab-same}
-use Rattle.correction_factors.specs.Factors.{whereLearning, sectionOf, subbandOf}
+use Rattle.correction_factors.specs.Factors.{where_learning, section_of, subband_of}
 
 -- where a section's entry in a subband stands
 abbrev pub place_of : ℕ → ℕ → ℕ
 place_of section subband = section * 6 + subband
 
-pub subband-of-place : (section subband : ℕ) → subband < 6 → subbandOf (place_of section subband) ≡ subband
+pub subband-of-place : (section subband : ℕ) → subband < 6 → subband_of (place_of section subband) ≡ subband
 subband-of-place section subband h = omega arith
 
 -- what the loop knows at subband n: the entries of the subbands before it are as they shall be, the others as they were
@@ -25,9 +25,9 @@ pub record Learning (section : ℕ → ℕ) (f : ℕ → Float → Float) (old r
   pub to : n ≤ 6
   pub long : length r ≡ 48
   pub done :
-      (j : ℕ) → j < 48 → subbandOf j < n
-      → get_or r j nan ≡ cond (eqb (sectionOf j) (section (subbandOf j))) (f j (get_or old j nan)) (get_or old j nan)
-  pub ahead : (j : ℕ) → n ≤ subbandOf j → get_or r j nan ≡ get_or old j nan
+      (j : ℕ) → j < 48 → subband_of j < n
+      → get_or r j nan ≡ cond (eqb (section_of j) (section (subband_of j))) (f j (get_or old j nan)) (get_or old j nan)
+  pub ahead : (j : ℕ) → n ≤ subband_of j → get_or r j nan ≡ get_or old j nan
 
 pub learning-begun :
     (section : ℕ → ℕ) (f : ℕ → Float → Float) (old : List Float) → length old ≡ 48 → Learning section f old old 0
@@ -45,7 +45,7 @@ module _
         record {
           to = omega arith;
           long = length-set r place v ∙ l.long;
-          done = λ j b under. at j b under (ltb (subbandOf j) n) refl;
+          done = λ j b under. at j b under (ltb (subband_of j) n) refl;
           ahead = λ j over. other j (λ q. omega arith) ∙ l.ahead j (omega arith);
         }
       where
@@ -56,38 +56,38 @@ module _
         other j apart = get_or-set_other r place j v nan apart
 
         at :
-            (j : ℕ) → j < 48 → subbandOf j < n + 1 → (t : Bool) → ltb (subbandOf j) n ≡ t
+            (j : ℕ) → j < 48 → subband_of j < n + 1 → (t : Bool) → ltb (subband_of j) n ≡ t
             → get_or (set r place v) j nan
-            ≡ cond (eqb (sectionOf j) (section (subbandOf j))) (f j (get_or old j nan)) (get_or old j nan)
+            ≡ cond (eqb (section_of j) (section (subband_of j))) (f j (get_or old j nan)) (get_or old j nan)
         at j b under true q =
-            let before : subbandOf j < n = ltb-true (subbandOf j) n q in
+            let before : subband_of j < n = ltb-true (subband_of j) n q in
             other j (λ p. omega arith) ∙ l.done j b before
         at j b under false q =
-            let here : subbandOf j ≡ n = omega (arith, ltb-false (subbandOf j) n q) in
-            cond-by (eqb (sectionOf j) (section (subbandOf j))) (get_or (set r place v) j nan) (f j (get_or old j nan)) (get_or old j nan)
+            let here : subband_of j ≡ n = omega (arith, ltb-false (subband_of j) n q) in
+            cond-by (eqb (section_of j) (section (subband_of j))) (get_or (set r place v) j nan) (f j (get_or old j nan)) (get_or old j nan)
             (λ p.
-            let same : j ≡ place = omega (arith, eqb-true (sectionOf j) (section (subbandOf j)) p, ap section here) in
+            let same : j ≡ place = omega (arith, eqb-true (section_of j) (section (subband_of j)) p, ap section here) in
             subst (λ (i : ℕ). get_or (set r place v) i nan ≡ f i (get_or old i nan)) (sym same)
             (get_or-set_same r place v nan (omega (arith, l.long)) ∙ e ∙ ap (f place) (l.ahead place (omega arith))))
             (λ p.
-            other j (λ q. eqb-false (sectionOf j) (section (subbandOf j)) p (omega (arith, ap section here)))
+            other j (λ q. eqb-false (section_of j) (section (subband_of j)) p (omega (arith, ap section here)))
             ∙ l.ahead j (omega arith))
 
-    pub learning-over : 6 ≤ n → r ≡ whereLearning section f old
-    unfolding whereLearning
+    pub learning-over : 6 ≤ n → r ≡ where_learning section f old
+    unfolding where_learning
     learning-over over =
         tab-is 48 nan
-        (λ j. cond (eqb (sectionOf j) (section (subbandOf j))) (f j (get_or old j nan)) (get_or old j nan))
+        (λ j. cond (eqb (section_of j) (section (subband_of j))) (f j (get_or old j nan)) (get_or old j nan))
         r l.long (λ j b. l.done j b (omega arith))
 
 -- the same sections and the same changes
 pub where-same :
     (section other : ℕ → ℕ) (f g : ℕ → Float → Float) (table : List Float)
     → ((s : ℕ) → s < 6 → section s ≡ other s) → ((j : ℕ) (x : Float) → f j x ≡ g j x)
-    → whereLearning section f table ≡ whereLearning other g table
-unfolding whereLearning
+    → where_learning section f table ≡ where_learning other g table
+unfolding where_learning
 where-same section other f g table sections changes =
     tab-same 48 nan
-    (λ j. cond (eqb (sectionOf j) (section (subbandOf j))) (f j (get_or table j nan)) (get_or table j nan))
-    (λ j. cond (eqb (sectionOf j) (other (subbandOf j))) (g j (get_or table j nan)) (get_or table j nan))
-    (λ j b. rw (sections (subbandOf j) (omega arith), changes j (get_or table j nan)))
+    (λ j. cond (eqb (section_of j) (section (subband_of j))) (f j (get_or table j nan)) (get_or table j nan))
+    (λ j. cond (eqb (section_of j) (other (subband_of j))) (g j (get_or table j nan)) (get_or table j nan))
+    (λ j b. rw (sections (subband_of j) (omega arith), changes j (get_or table j nan)))

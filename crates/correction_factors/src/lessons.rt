@@ -4,20 +4,20 @@ ghost use Rattle.std.specs.Float.{nan, binary32};
 ghost use Rattle.std.specs.Float.Ieee.{div};
 ghost use Rattle.aec3_common.specs.Binary32.{zero32};
 ghost use Rattle.aec3_common.specs.Lists.{tab};
-ghost use Rattle.correction_factors.specs.Factors.{isUpdated, leastFrom, leastActive};
+ghost use Rattle.correction_factors.specs.Factors.{is_updated, least_from, least_active};
 
 use aec3_common::X2_BAND_ENERGY_THRESHOLD;
 use filter_sections::subband_bands;
 
-#[tactic(auto, unfolding(crate::specs::Factors::isUpdated))]
+#[tactic(auto, unfolding(crate::specs::Factors::is_updated))]
 fn is_updated(x2: f32, e2: f32) -> bool
-    ensures { result ≡ isUpdated x2 e2 }
+    ensures { result ≡ is_updated x2 e2 }
 {
     (x2 > X2_BAND_ENERGY_THRESHOLD) & (e2 > 0.0)
 }
 
 pub fn updated_subbands(x2: &[f32; 6], e2: &[f32; 6]) -> [bool; 6]
-    ensures { result ≡ tab 6 (λ s. isUpdated (get_or x2.now s nan) (get_or e2.now s nan)) }
+    ensures { result ≡ tab 6 (λ s. is_updated (get_or x2.now s nan) (get_or e2.now s nan)) }
 {
     let mut r = [false; 6];
     for s in 0..6 {
@@ -51,7 +51,7 @@ fn lower(m: u32, n: u32) -> u32
 // The least of a number and the active sections of the bands from one to below another.
 fn least_of_bands(active: &[u32; 65], last: u32, begin: usize, end: usize) -> u32
     requires { end ≤ 65 }
-    ensures value { result ≡ leastFrom last (tab (end - begin) (λ j. get_or active.now (begin + j) 0)) }
+    ensures value { result ≡ least_from last (tab (end - begin) (λ j. get_or active.now (begin + j) 0)) }
     ensures upper_bound { result ≤ last }
 {
     let mut least = last;
@@ -64,7 +64,7 @@ fn least_of_bands(active: &[u32; 65], last: u32, begin: usize, end: usize) -> u3
 // The least active section of each subband.
 pub fn least_active(active: &[u32; 65], sections: usize) -> [u32; 6]
     requires { (1 ≤ sections) × (sections ≤ 8) }
-    ensures value { result ≡ tab 6 (λ s. leastActive sections active.now s) }
+    ensures value { result ≡ tab 6 (λ s. least_active sections active.now s) }
     ensures by_index { (s : ℕ) → get_or result s 0 < 8 }
 {
     let last = sections as u32 - 1;

@@ -7,7 +7,7 @@ mod streams;
 mod subbands;
 
 ghost use Rattle.std.specs.Prelude.{◌≡◌, ◌≤◌};
-ghost use Rattle.correction_factors.specs.Factors.{freshFactors, lessonOf, learnt};
+ghost use Rattle.correction_factors.specs.Factors.{fresh_factors, lesson_of, learnt};
 
 use learning::{count_updates, move_estimates, move_factors, move_references};
 use lessons::{least_active, new_ratios, updated_subbands};
@@ -32,9 +32,9 @@ pub struct ErleLimits {
 }
 
 impl CorrectionFactors {
-    #[tactic(auto, unfolding(crate::specs::Factors::freshFactors, aec3_common::specs::Lists::tab))]
+    #[tactic(auto, unfolding(crate::specs::Factors::fresh_factors, aec3_common::specs::Lists::tab))]
     pub fn new(min: f32) -> CorrectionFactors
-        ensures { result ≡ freshFactors min }
+        ensures { result ≡ fresh_factors min }
     {
         CorrectionFactors {
             erle_estimators: [min; 48],
@@ -55,7 +55,7 @@ impl CorrectionFactors {
         e2: &[f32; 6],
     ) -> CorrectionFactors
         requires { (1 ≤ sections) × (sections ≤ 8) }
-        ensures { result ≡ learnt limits.min limits.max_l limits.max_h (lessonOf sections active.now x2.now y2.now e2.now) self }
+        ensures { result ≡ learnt limits.min limits.max_l limits.max_h (lesson_of sections active.now x2.now y2.now e2.now) self }
     {
         let least = least_active(active, sections);
         let updated = updated_subbands(x2, e2);

@@ -3,18 +3,18 @@ ghost use Rattle.std.specs.Prelude.{◌≡◌, ℕ, ◌≤◌, ◌<◌, length, 
 ghost use Rattle.std.specs.Float.{binary32};
 ghost use Rattle.std.specs.Float.Ieee.{mul};
 ghost use Rattle.aec3_common.specs.Binary32.{clamped};
-ghost use Rattle.filter_sections.specs.Subbands.{maxErle};
-ghost use Rattle.correction_factors.specs.Streams.{lastCopied};
-ghost use Rattle.correction_factors.specs.Steps.{firstBand, factorsPut, factorsOf, correctedBy};
+ghost use Rattle.filter_sections.specs.Subbands.{max_erle};
+ghost use Rattle.correction_factors.specs.Streams.{last_copied};
+ghost use Rattle.correction_factors.specs.Steps.{first_band, factors_put, factors_of, corrected_by};
 
 use crate::ErleLimits;
 use aec3_common::clamp;
 use filter_sections::{max_erle, subband_bands};
 
 // Where the bands that map to a subband begin: band 0 maps to subband 0, though it is summed in none.
-#[tactic(auto, unfolding(crate::specs::Steps::firstBand, filter_sections::specs::Subbands::subbandBands))]
+#[tactic(auto, unfolding(crate::specs::Steps::first_band, filter_sections::specs::Subbands::subband_bands))]
 fn first_band(subband: usize) -> usize
-    ensures { result ≡ firstBand subband }
+    ensures { result ≡ first_band subband }
 {
     if subband == 0 {
         0
@@ -35,7 +35,7 @@ fn put_factors(
 )
     requires r_len { (length r.old ≡ 65) × (subband < 6) × (from ≤ to) × (to ≤ 65) }
     requires by_index { (k : ℕ) → get_or active.now k 0 < 8 }
-    ensures { r.new ≡ factorsPut factors.now active.now subband from to r.old }
+    ensures { r.new ≡ factors_put factors.now active.now subband from to r.old }
 {
     for k in from..to {
         r[k] = factors[active[k] as usize * 6 + subband];
@@ -45,7 +45,7 @@ fn put_factors(
 // The factor of each band. The subbands are taken one after the other, so that no band's subband has to be sought.
 pub fn band_factors(factors: &[f32; 48], active: &[u32; 65]) -> [f32; 65]
     requires { (k : ℕ) → get_or active.now k 0 < 8 }
-    ensures { result ≡ factorsOf factors.now active.now }
+    ensures { result ≡ factors_of factors.now active.now }
 {
     let mut r = [1.0; 65];
     for subband in 0..6 {
@@ -62,7 +62,7 @@ pub fn band_factors(factors: &[f32; 48], active: &[u32; 65]) -> [f32; 65]
 }
 
 fn corrected_band(average: f32, factor: f32, limits: ErleLimits, k: usize) -> f32
-    ensures { result ≡ clamped (mul binary32 average factor) limits.min (maxErle limits.max_l limits.max_h k) }
+    ensures { result ≡ clamped (mul binary32 average factor) limits.min (max_erle limits.max_l limits.max_h k) }
 {
     let max = max_erle(limits.max_l, limits.max_h, k);
     clamp(average * factor, limits.min, max)
@@ -70,7 +70,7 @@ fn corrected_band(average: f32, factor: f32, limits: ErleLimits, k: usize) -> f3
 
 // Band 64 copies 63.
 pub fn copy_last(stream: &mut [f32; 65])
-    ensures { stream.new ≡ lastCopied stream.old }
+    ensures { stream.new ≡ last_copied stream.old }
 {
     let last = stream[63];
     stream[64] = last;
@@ -78,7 +78,7 @@ pub fn copy_last(stream: &mut [f32; 65])
 
 fn correct_bands(stream: &mut [f32; 65], average: &[f32], factors: &[f32; 65], limits: ErleLimits)
     requires { (length stream.old ≡ 65) × (length average.now ≡ 65) }
-    ensures { stream.new ≡ correctedBy limits.min limits.max_l limits.max_h factors.now average.now }
+    ensures { stream.new ≡ corrected_by limits.min limits.max_l limits.max_h factors.now average.now }
 {
     for k in 0..65 {
         stream[k] = corrected_band(average[k], factors[k], limits, k);
@@ -93,7 +93,7 @@ pub fn correct_stream(
     limits: ErleLimits,
 )
     requires { (length stream.old ≡ 65) × (length average.now ≡ 65) }
-    ensures { stream.new ≡ lastCopied (correctedBy limits.min limits.max_l limits.max_h factors.now average.now) }
+    ensures { stream.new ≡ last_copied (corrected_by limits.min limits.max_l limits.max_h factors.now average.now) }
 {
     correct_bands(stream, average, factors, limits);
     copy_last(stream);

@@ -3,7 +3,7 @@ ghost use Rattle.std.specs.Prelude.{◌≡◌, ◌-◌, ◌+◌, ◌≤◌, leng
 ghost use Rattle.std.specs.Float.{nan};
 ghost use Rattle.aec3_common.specs.Lists.{tab};
 ghost use Rattle.aec3_common.specs.Spectra.{sum};
-ghost use Rattle.correction_factors.specs.Factors.{subbandSums};
+ghost use Rattle.correction_factors.specs.Factors.{subband_sums};
 
 use filter_sections::subband_bands;
 
@@ -21,7 +21,7 @@ fn sum_of_bands(spectrum: &[f32], begin: usize, end: usize) -> f32
 
 pub fn subband_sums(spectrum: &[f32]) -> [f32; 6]
     requires { length spectrum.now ≡ 65 }
-    ensures { result ≡ subbandSums spectrum.now }
+    ensures { result ≡ subband_sums spectrum.now }
 {
     let mut r = [0.0; 6];
     for s in 0..6 {

@@ -8,7 +8,7 @@ use lib.Dec.{ltb}
 use lib.ListN.{length, set, take, drop, length-set, length-drop, length-append}
 use lib.Seq.{drop-cons, get_or-set_same, drop-set-lt, take_all, append_snoc}
 use borrow.Author.Tests.{lt-ltb, le-ltb}
-use Rattle.encoding.specs.Text.{digit, hexDigits, hex8, decimalDigits, decimal}
+use Rattle.encoding.specs.Text.{digit, hex_digits, hex8, decimal_digits, decimal}
 
 -- What a loop has written of a text: what is left of it, and the table from its place on, are the text.
 pub record Spelt (size : ℕ) (left text table : List ℕ) (from : ℕ) : Type 0 where
@@ -46,37 +46,37 @@ pub spelt-front : {size : ℕ} {left text table : List ℕ} {from : ℕ} → Spe
 spelt-front {from = zero} w e h = spelt-all w e
 spelt-front {from = suc j} w e h = absurd (omega arith)
 
-pub hex-none : (k n : ℕ) → k ≤ 0 → hexDigits k n ≡ []
-unfolding hexDigits
+pub hex-none : (k n : ℕ) → k ≤ 0 → hex_digits k n ≡ []
+unfolding hex_digits
 hex-none zero n h = refl
 hex-none (suc k) n h = absurd (omega arith)
 
 -- the last k digits are those before the last, and it
-pub hex-last : (k n : ℕ) → 0 < k → hexDigits k n ≡ hexDigits (k - 1) (n / 16) ++ (digit (n % 16) ∷ [])
-unfolding hexDigits
+pub hex-last : (k n : ℕ) → 0 < k → hex_digits k n ≡ hex_digits (k - 1) (n / 16) ++ (digit (n % 16) ∷ [])
+unfolding hex_digits
 hex-last zero n h = absurd (omega arith)
 hex-last (suc k) n h =
     let p : suc k - 1 ≡ k = omega arith in
     rw p
 
 -- the decimal digits before the last one of n, at most k
-abbrev pub beforeLast : ℕ → ℕ → List ℕ
-beforeLast k n = cond (ltb n 10) [] (decimalDigits k (n / 10))
+abbrev pub before_last : ℕ → ℕ → List ℕ
+before_last k n = cond (ltb n 10) [] (decimal_digits k (n / 10))
 
 -- a number of two digits or more has the same before its last that its tenth has in all
-pub decimal-last : (k n : ℕ) → 0 < k → 10 ≤ n → beforeLast k n ≡ beforeLast (k - 1) (n / 10) ++ (digit (n / 10 % 10) ∷ [])
-unfolding decimalDigits
+pub decimal-last : (k n : ℕ) → 0 < k → 10 ≤ n → before_last k n ≡ before_last (k - 1) (n / 10) ++ (digit (n / 10 % 10) ∷ [])
+unfolding decimal_digits
 decimal-last zero n h b = absurd (omega arith)
 decimal-last (suc k) n h b =
     let p : suc k - 1 ≡ k = omega arith in
     rw (le-ltb n 10 b, p)
 
 -- one of one digit has nothing before it
-pub decimal-short : (k n : ℕ) → n < 10 → beforeLast k n ≡ []
+pub decimal-short : (k n : ℕ) → n < 10 → before_last k n ≡ []
 decimal-short k n h = rw (lt-ltb n 10 h)
 
-pub decimal-none : (k n : ℕ) → k ≤ 0 → beforeLast k n ≡ []
-unfolding decimalDigits
+pub decimal-none : (k n : ℕ) → k ≤ 0 → before_last k n ≡ []
+unfolding decimal_digits
 decimal-none zero n h = same (ltb n 10)
   where
     same : (t : Bool) → cond {A = List ℕ} t [] [] ≡ []
@@ -86,18 +86,18 @@ decimal-none (suc k) n h = absurd (omega arith)
 
 -- how long the two texts are
 pub length-hex8 : (n : ℕ) → length (hex8 n) ≡ 8
-unfolding hexDigits
+unfolding hex_digits
 length-hex8 n = refl
 
 one_more : (t : Bool) (s : List ℕ) (x k : ℕ) → length s ≤ k → length (cond t [] s ++ (x ∷ [])) ≤ suc k
 one_more true s x k h = omega arith
 one_more false s x k h = omega (arith, length-append s (x ∷ []))
 
-length-decimalDigits : (k n : ℕ) → length (decimalDigits k n) ≤ k
-unfolding decimalDigits
-length-decimalDigits zero n = omega arith
-length-decimalDigits (suc k) n =
-    one_more (ltb n 10) (decimalDigits k (n / 10)) (digit (n % 10)) k (length-decimalDigits k (n / 10))
+length-decimal_digits : (k n : ℕ) → length (decimal_digits k n) ≤ k
+unfolding decimal_digits
+length-decimal_digits zero n = omega arith
+length-decimal_digits (suc k) n =
+    one_more (ltb n 10) (decimal_digits k (n / 10)) (digit (n % 10)) k (length-decimal_digits k (n / 10))
 
 pub length-decimal : (n : ℕ) → length (decimal n) ≤ 10
-length-decimal n = length-decimalDigits 10 n
+length-decimal n = length-decimal_digits 10 n

@@ -7,7 +7,7 @@ use native.Mathlib.Nat.{pow-succ'}
 use native.Mathlib.Omega.{arith}
 use lib.Dec.{ltb}
 use borrow.Author.Tests.{lt-ltb, le-ltb, ltb-true, ltb-false}
-use Rattle.encoding.specs.Text.{digit, hexDigits, hex8, decimalDigits, decimal}
+use Rattle.encoding.specs.Text.{digit, hex_digits, hex8, decimal_digits, decimal}
 
 -- what a digit stands for
 unfoldable pub worth : ℕ → ℕ
@@ -31,13 +31,13 @@ worth-digit d h = go (ltb d 10) refl
     go true e = rw (lt-ltb (48 + d) 65 (omega (arith, ltb-true d 10 e))) (omega arith)
     go false e = rw (le-ltb (65 + (d - 10)) 65 (omega arith)) (omega (arith, ltb-false d 10 e))
 
-hexDigits-name : (k n : ℕ) → n < 16 ^ k → named 16 0 (hexDigits k n) ≡ n
-unfolding named hexDigits
-hexDigits-name zero n h = omega arith
-hexDigits-name (suc k) n h =
+hex_digits-name : (k n : ℕ) → n < 16 ^ k → named 16 0 (hex_digits k n) ≡ n
+unfolding named hex_digits
+hex_digits-name zero n h = omega arith
+hex_digits-name (suc k) n h =
     let b : n < 16 * 16 ^ k = rw pow-succ' at h in
-    named-last 16 0 (hexDigits k (n / 16)) (digit (n % 16))
-    ∙ omega (arith, hexDigits-name k (n / 16) (omega arith), worth-digit (n % 16) (omega arith))
+    named-last 16 0 (hex_digits k (n / 16)) (digit (n % 16))
+    ∙ omega (arith, hex_digits-name k (n / 16) (omega arith), worth-digit (n % 16) (omega arith))
 
 -- no digits before the last name 0, which is the tenth of a number below 10
 before_last : (n : ℕ) (s : List ℕ) (t : Bool) → ltb n 10 ≡ t → named 10 0 s ≡ n / 10 → named 10 0 (cond t [] s) ≡ n / 10
@@ -45,17 +45,17 @@ unfolding named
 before_last n s true e h = omega (arith, ltb-true n 10 e)
 before_last n s false e h = h
 
-decimalDigits-name : (k n : ℕ) → n < 10 ^ k → named 10 0 (decimalDigits k n) ≡ n
-unfolding named decimalDigits
-decimalDigits-name zero n h = omega arith
-decimalDigits-name (suc k) n h =
+decimal_digits-name : (k n : ℕ) → n < 10 ^ k → named 10 0 (decimal_digits k n) ≡ n
+unfolding named decimal_digits
+decimal_digits-name zero n h = omega arith
+decimal_digits-name (suc k) n h =
     let b : n < 10 * 10 ^ k = rw pow-succ' at h in
-    let before = before_last n (decimalDigits k (n / 10)) (ltb n 10) refl (decimalDigits-name k (n / 10) (omega arith)) in
-    named-last 10 0 (cond (ltb n 10) [] (decimalDigits k (n / 10))) (digit (n % 10))
+    let before = before_last n (decimal_digits k (n / 10)) (ltb n 10) refl (decimal_digits-name k (n / 10) (omega arith)) in
+    named-last 10 0 (cond (ltb n 10) [] (decimal_digits k (n / 10))) (digit (n % 10))
     ∙ omega (arith, before, worth-digit (n % 10) (omega arith))
 
 pub hex8-names : (n : ℕ) → n < 2 ^ 32 → named 16 0 (hex8 n) ≡ n
-hex8-names n h = hexDigits-name 8 n h
+hex8-names n h = hex_digits-name 8 n h
 
 pub decimal-names : (n : ℕ) → n < 2 ^ 32 → named 10 0 (decimal n) ≡ n
-decimal-names n h = decimalDigits-name 10 n (omega arith)
+decimal-names n h = decimal_digits-name 10 n (omega arith)

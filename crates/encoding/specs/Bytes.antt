@@ -6,9 +6,9 @@ abbrev pub byte_at : List ℕ → ℕ → ℕ
 byte_at s i = get_or s i 0
 
 -- the number of 16 bits at i: its lower byte first
-unfoldable pub halfAt : List ℕ → ℕ → ℕ
-halfAt s i = byte_at s i + 256 * byte_at s (i + 1)
+unfoldable pub half_at : List ℕ → ℕ → ℕ
+half_at s i = byte_at s i + 256 * byte_at s (i + 1)
 
 -- the number of 32 bits at i: its lower half first
 unfoldable pub word_at : List ℕ → ℕ → ℕ
-word_at s i = halfAt s i + 65536 * halfAt s (i + 2)
+word_at s i = half_at s i + 65536 * half_at s (i + 2)

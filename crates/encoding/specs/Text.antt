@@ -29,19 +29,19 @@ unfoldable pub digit : ℕ → ℕ
 digit d = cond (ltb d 10) (48 + d) (65 + (d - 10))
 
 -- the last k hexadecimal digits of n
-unfoldable pub hexDigits : ℕ → ℕ → List ℕ
-hexDigits zero n = []
-hexDigits (suc k) n = hexDigits k (n / 16) ++ (digit (n % 16) ∷ [])
+unfoldable pub hex_digits : ℕ → ℕ → List ℕ
+hex_digits zero n = []
+hex_digits (suc k) n = hex_digits k (n / 16) ++ (digit (n % 16) ∷ [])
 
 -- a number of 32 bits as eight hexadecimal digits
 abbrev pub hex8 : ℕ → List ℕ
-hex8 n = hexDigits 8 n
+hex8 n = hex_digits 8 n
 
 -- the last decimal digits of n, at most k, with no zeros in front
-unfoldable pub decimalDigits : ℕ → ℕ → List ℕ
-decimalDigits zero n = []
-decimalDigits (suc k) n = cond (ltb n 10) [] (decimalDigits k (n / 10)) ++ (digit (n % 10) ∷ [])
+unfoldable pub decimal_digits : ℕ → ℕ → List ℕ
+decimal_digits zero n = []
+decimal_digits (suc k) n = cond (ltb n 10) [] (decimal_digits k (n / 10)) ++ (digit (n % 10) ∷ [])
 
 -- a number of 32 bits in decimal: it has at most ten digits
 abbrev pub decimal : ℕ → List ℕ
-decimal n = decimalDigits 10 n
+decimal n = decimal_digits 10 n

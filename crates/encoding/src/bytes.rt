@@ -2,7 +2,7 @@
 ghost use Rattle.std.specs.Prelude.{◌≡◌, ◌<◌};
 ghost use Rattle.std.specs.Float.{binary32};
 ghost use Rattle.std.specs.Float.Ieee.{of_bits, to_bits};
-ghost use Rattle.encoding.specs.Bytes.{byte_at, halfAt, word_at};
+ghost use Rattle.encoding.specs.Bytes.{byte_at, half_at, word_at};
 
 // The 31 bits below the sign, of plus infinity: a pattern whose lower bits are above them is a NaN's.
 const INFINITY_BITS: u32 = 0x7f80_0000;
@@ -28,7 +28,7 @@ pub fn byte_at(s: &[u8], i: usize) -> u32
 // The number of 16 bits whose bytes stand at i and i + 1. Where i is past the end there is nothing to read, and i + 1
 // might not be a usize.
 pub fn half_at(s: &[u8], i: usize) -> u32
-    ensures value { result ≡ halfAt s.now i }
+    ensures value { result ≡ half_at s.now i }
     ensures upper_bound { result < 65536 }
 {
     if i < s.len() {

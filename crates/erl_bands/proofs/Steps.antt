@@ -5,13 +5,13 @@ use Prim.Native.Nat.{ℕ}
 use lib.IntN.{ℤ}
 use lib.Ieee.{Float, nan, inf, fin, binary32, of_bits, div, lt}
 use lib.ListN.{get_or}
-use Rattle.aec3_common.specs.Binary32.{zero32, one32, energyThreshold}
+use Rattle.aec3_common.specs.Binary32.{zero32, one32, energy_threshold}
 use Rattle.aec3_common.specs.Lists.{tab}
-use Rattle.aec3_common.specs.Spectra.{innerBand}
-use Rattle.aec3_common.proofs.Tables.{tab-same, getD-tab}
+use Rattle.aec3_common.specs.Spectra.{inner_band}
+use Rattle.aec3_common.proofs.Tables.{tab-same, get_or-tab}
 use Rattle.erl_bands.specs.declared.figure.Figure.{Figure}
-use Rattle.erl_bands.specs.Figure.{learntErl, learntHold, learnt, rested, afterBlock}
-use Rattle.erl_bands.specs.Steps.{newErl, erlBy, holdBy}
+use Rattle.erl_bands.specs.Figure.{learnt_erl, learnt_hold, learnt, rested, after_block}
+use Rattle.erl_bands.specs.Steps.{new_erl, erl_by, hold_by}
 
 -- plus infinity is below nothing
 never-below : (x : Float) → lt (inf false) x ≡ false
@@ -26,18 +26,18 @@ unfolding div of_bits
 taught_none x = never-below x
 
 -- a band's figure after the block, by its new ERL
-abbrev pub figureBy : Float → Float → ℤ → Figure
-figureBy new erl hold = record { erl = erlBy new erl (holdBy new erl hold); hold = holdBy new erl hold }
+abbrev pub figure_by : Float → Float → ℤ → Figure
+figure_by new erl hold = record { erl = erl_by new erl (hold_by new erl hold); hold = hold_by new erl hold }
 
 pub figure-by :
     (render capture erl : Float) (hold : ℤ)
-    → figureBy (newErl render capture) erl hold ≡ afterBlock energyThreshold render capture (record { erl = erl; hold = hold })
-unfolding erlBy holdBy newErl afterBlock rested learnt learntErl learntHold
-figure-by render capture erl hold = go (lt energyThreshold render) refl (lt (div binary32 capture render) erl) refl
+    → figure_by (new_erl render capture) erl hold ≡ after_block energy_threshold render capture (record { erl = erl; hold = hold })
+unfolding erl_by hold_by new_erl after_block rested learnt learnt_erl learnt_hold
+figure-by render capture erl hold = go (lt energy_threshold render) refl (lt (div binary32 capture render) erl) refl
   where
     go :
-        (t : Bool) → lt energyThreshold render ≡ t → (u : Bool) → lt (div binary32 capture render) erl ≡ u
-        → figureBy (newErl render capture) erl hold ≡ afterBlock energyThreshold render capture (record { erl = erl; hold = hold })
+        (t : Bool) → lt energy_threshold render ≡ t → (u : Bool) → lt (div binary32 capture render) erl ≡ u
+        → figure_by (new_erl render capture) erl hold ≡ after_block energy_threshold render capture (record { erl = erl; hold = hold })
     go true e true f = simp (e, f)
     go true e false f = simp (e, f)
     go false e u f = simp (e, taught_none erl)
@@ -45,5 +45,5 @@ figure-by render capture erl hold = go (lt energyThreshold render) refl (lt (div
 -- what stands beside the inner bands is one value
 pub beside_same :
     (f : ℕ → Float) (v : Float)
-    → tab 65 (λ k. cond (innerBand k) (f k) (get_or (tab 65 (λ j. v)) k nan)) ≡ tab 65 (λ k. cond (innerBand k) (f k) v)
-beside_same f v = tab-same 65 nan _ _ (λ k b. ap (λ (x : Float). cond (innerBand k) (f k) x) (getD-tab 65 (λ j. v) k nan b))
+    → tab 65 (λ k. cond (inner_band k) (f k) (get_or (tab 65 (λ j. v)) k nan)) ≡ tab 65 (λ k. cond (inner_band k) (f k) v)
+beside_same f v = tab-same 65 nan _ _ (λ k b. ap (λ (x : Float). cond (inner_band k) (f k) x) (get_or-tab 65 (λ j. v) k nan b))

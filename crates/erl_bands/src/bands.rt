@@ -1,17 +1,17 @@
 // The figures of all bands one block later.
 ghost use Rattle.std.specs.Prelude.{◌≡◌};
 ghost use Rattle.std.specs.Float.Ieee.{lt};
-ghost use Rattle.erl_bands.specs.Figure.{learntErl};
-ghost use Rattle.erl_bands.specs.Steps.{newErl, newErls, erlBy, holdBy, erlsBy, holdsBy};
+ghost use Rattle.erl_bands.specs.Figure.{learnt_erl};
+ghost use Rattle.erl_bands.specs.Steps.{new_erl, new_erls, erl_by, hold_by, erls_by, holds_by};
 
 use crate::figure::{HOLD_BLOCKS, doubled, moved_down};
 use aec3_common::X2_BAND_ENERGY_THRESHOLD;
 use aec3_common::counts::fallen;
 
 // The ratio that a band learns from. Where render is not above the threshold it is infinite, which is below no ERL.
-#[tactic(auto, unfolding(crate::specs::Steps::newErl))]
+#[tactic(auto, unfolding(crate::specs::Steps::new_erl))]
 fn new_erl(render: f32, capture: f32) -> f32
-    ensures { result ≡ newErl render capture }
+    ensures { result ≡ new_erl render capture }
 {
     if render > X2_BAND_ENERGY_THRESHOLD {
         capture / render
@@ -22,7 +22,7 @@ fn new_erl(render: f32, capture: f32) -> f32
 
 // The ratios of all bands, each computed once.
 pub fn new_erls(render: &[f32; 65], capture: &[f32; 65]) -> [f32; 65]
-    ensures { result ≡ newErls render.now capture.now }
+    ensures { result ≡ new_erls render.now capture.now }
 {
     let mut r = [0.0; 65];
     for k in 0..65 {
@@ -32,7 +32,7 @@ pub fn new_erls(render: &[f32; 65], capture: &[f32; 65]) -> [f32; 65]
 }
 
 fn hold_after(new: f32, erl: f32, hold: i32) -> i32
-    ensures { result ≡ holdBy new erl hold }
+    ensures { result ≡ hold_by new erl hold }
 {
     if new < erl {
         fallen(HOLD_BLOCKS)
@@ -41,23 +41,23 @@ fn hold_after(new: f32, erl: f32, hold: i32) -> i32
     }
 }
 
-#[tactic(auto, unfolding(crate::specs::Figure::learntErl))]
+#[tactic(auto, unfolding(crate::specs::Figure::learnt_erl))]
 fn learnt_erl(new: f32, erl: f32) -> f32
-    ensures { result ≡ learntErl (lt new erl) new erl }
+    ensures { result ≡ learnt_erl (lt new erl) new erl }
 {
     if new < erl { moved_down(erl, new) } else { erl }
 }
 
 // The ERL beside the hold that it has after the block.
 fn erl_after(new: f32, erl: f32, hold: i32) -> f32
-    ensures { result ≡ erlBy new erl hold }
+    ensures { result ≡ erl_by new erl hold }
 {
     doubled(hold, learnt_erl(new, erl))
 }
 
 // The holds of bands 1 to 63 after the block.
 pub fn moved_holds<'a>(holds: &'a [i32; 63], erl: &'a [f32; 65], new: &[f32; 65]) -> [i32; 63]
-    ensures { result ≡ holdsBy new.now erl.now holds.now }
+    ensures { result ≡ holds_by new.now erl.now holds.now }
 {
     let mut r = [0; 63];
     for k in 0..63 {
@@ -68,7 +68,7 @@ pub fn moved_holds<'a>(holds: &'a [i32; 63], erl: &'a [f32; 65], new: &[f32; 65]
 
 // The ERLs of bands 1 to 63 after the block, beside their holds after it. Bands 0 and 64 are left at 0.
 pub fn moved_erl(erl: &[f32; 65], holds: &[i32; 63], new: &[f32; 65]) -> [f32; 65]
-    ensures { result ≡ erlsBy new.now erl.now holds.now }
+    ensures { result ≡ erls_by new.now erl.now holds.now }
 {
     let mut r = [0.0; 65];
     for k in 1..64 {

@@ -1,8 +1,8 @@
 // One figure: an ERL and its hold.
 ghost use Rattle.std.specs.Prelude.{◌≡◌, true};
-ghost use Rattle.aec3_common.specs.Binary32.{sumThreshold};
+ghost use Rattle.aec3_common.specs.Binary32.{sum_threshold};
 ghost use Rattle.aec3_common.specs.Spectra.{sum as Spectra·sum};
-ghost use Rattle.erl_bands.specs.Figure.{learntErl, learns as Figure·learns, learnt as Figure·learnt, doubled as Figure·doubled, rested as Figure·rested, afterBlock};
+ghost use Rattle.erl_bands.specs.Figure.{learnt_erl, learns as Figure·learns, learnt as Figure·learnt, doubled as Figure·doubled, rested as Figure·rested, after_block};
 
 use aec3_common::counts::fallen;
 use aec3_common::spectra::sum;
@@ -27,14 +27,14 @@ fn learns(threshold: f32, render: f32, capture: f32, erl: f32) -> bool
 }
 
 // The ERL moved towards a new one below it.
-#[tactic(auto, unfolding(crate::specs::Figure::learntErl))]
+#[tactic(auto, unfolding(crate::specs::Figure::learnt_erl))]
 pub(crate) fn moved_down(erl: f32, new: f32) -> f32
-    ensures { result ≡ learntErl true new erl }
+    ensures { result ≡ learnt_erl true new erl }
 {
     larger(moved(erl, new, 0.1), MIN_ERL)
 }
 
-#[tactic(auto, unfolding(crate::specs::Figure::learnt, crate::specs::Figure::learntErl, crate::specs::Figure::learntHold))]
+#[tactic(auto, unfolding(crate::specs::Figure::learnt, crate::specs::Figure::learnt_erl, crate::specs::Figure::learnt_hold))]
 fn learnt(threshold: f32, render: f32, capture: f32, f: Figure) -> Figure
     ensures { result ≡ Figure·learnt threshold render capture f }
 {
@@ -69,16 +69,16 @@ fn rested(f: Figure) -> Figure
 }
 
 // A figure one block later.
-#[tactic(auto, unfolding(crate::specs::Figure::afterBlock))]
+#[tactic(auto, unfolding(crate::specs::Figure::after_block))]
 fn after_block(threshold: f32, render: f32, capture: f32, f: Figure) -> Figure
-    ensures { result ≡ afterBlock threshold render capture f }
+    ensures { result ≡ after_block threshold render capture f }
 {
     rested(learnt(threshold, render, capture, f))
 }
 
 // The time-domain figure one block later. The captures are added up only where their sum is looked at.
 pub fn time_domain_after(f: Figure, render: &[f32], capture: &[f32]) -> Figure
-    ensures { result ≡ afterBlock sumThreshold (Spectra·sum render.now) (Spectra·sum capture.now) f }
+    ensures { result ≡ after_block sum_threshold (Spectra·sum render.now) (Spectra·sum capture.now) f }
 {
     let render_sum = sum(render);
     if render_sum > X2_SUM_ENERGY_THRESHOLD {

@@ -9,35 +9,35 @@ use lib.Ieee.{Float}
 use lib.ListN.{length}
 use Rattle.aec3_common.proofs.Choices.{and_left, and_right, passed}
 use Rattle.aec3_common.proofs.Ranges.{from-lo, to-hi}
-use Rattle.aec3_common.specs.Binary32.{valuesOk}
-use Rattle.aec3_common.specs.Refusal.{unless, accepted, badLength, badValue}
-use Rattle.aec3_common.specs.Settings.{captureChannelsOk, renderChannelsOk, maxCaptureChannels, maxRenderChannels}
-use Rattle.erl_estimator.specs.Erl.{channelsOk, lengthsOk, updateRefusal}
+use Rattle.aec3_common.specs.Binary32.{values_ok}
+use Rattle.aec3_common.specs.Refusal.{unless, accepted, bad_length, bad_value}
+use Rattle.aec3_common.specs.Settings.{capture_channels_ok, render_channels_ok, max_capture_channels, max_render_channels}
+use Rattle.erl_estimator.specs.Erl.{channels_ok, lengths_ok, update_refusal}
 
-module _ (captures renders : ℕ) (ok : channelsOk captures renders ≡ true) where
-  pub few-captures : captures ≤ maxCaptureChannels
-  few-captures = to-hi 1 maxCaptureChannels captures (and_left (captureChannelsOk captures) (renderChannelsOk renders) ok)
+module _ (captures renders : ℕ) (ok : channels_ok captures renders ≡ true) where
+  pub few-captures : captures ≤ max_capture_channels
+  few-captures = to-hi 1 max_capture_channels captures (and_left (capture_channels_ok captures) (render_channels_ok renders) ok)
 
   pub some-renders : 1 ≤ renders
-  some-renders = from-lo 1 maxRenderChannels renders (and_right (captureChannelsOk captures) (renderChannelsOk renders) ok)
+  some-renders = from-lo 1 max_render_channels renders (and_right (capture_channels_ok captures) (render_channels_ok renders) ok)
 
-  pub few-renders : renders ≤ maxRenderChannels
-  few-renders = to-hi 1 maxRenderChannels renders (and_right (captureChannelsOk captures) (renderChannelsOk renders) ok)
+  pub few-renders : renders ≤ max_render_channels
+  few-renders = to-hi 1 max_render_channels renders (and_right (capture_channels_ok captures) (render_channels_ok renders) ok)
 
 module _
     (captures renders : ℕ) (converged : List Bool) (render capture : List Float)
-    (ok : updateRefusal captures renders converged render capture ≡ accepted)
+    (ok : update_refusal captures renders converged render capture ≡ accepted)
   where
-    channels-passed : channelsOk captures renders ≡ true
-    unfolding updateRefusal
+    channels-passed : channels_ok captures renders ≡ true
+    unfolding update_refusal
     channels-passed =
-        passed (channelsOk captures renders) 1
-        (unless (lengthsOk captures renders converged render capture) badLength (unless (valuesOk render && valuesOk capture) badValue accepted)) ok
+        passed (channels_ok captures renders) 1
+        (unless (lengths_ok captures renders converged render capture) bad_length (unless (values_ok render && values_ok capture) bad_value accepted)) ok
 
-    lengths-passed : lengthsOk captures renders converged render capture ≡ true
-    unfolding updateRefusal
+    lengths-passed : lengths_ok captures renders converged render capture ≡ true
+    unfolding update_refusal
     lengths-passed =
-        passed (lengthsOk captures renders converged render capture) 4 (unless (valuesOk render && valuesOk capture) badValue accepted)
+        passed (lengths_ok captures renders converged render capture) 4 (unless (values_ok render && values_ok capture) bad_value accepted)
         (rw channels-passed at ok)
 
     -- flags and renders

@@ -11,7 +11,7 @@ use lib.ListN.{length}
 use Rattle.aec3_common.specs.Lists.{tab}
 use Rattle.aec3_common.specs.Spectra.{flagged}
 use Rattle.erl_estimator.specs.declared.ErlEstimator.{ErlEstimator}
-use Rattle.erl_estimator.specs.Erl.{counted, learntFrom, reduced, updated}
+use Rattle.erl_estimator.specs.Erl.{counted, learnt_from, reduced, updated}
 
 module _ (s : ErlEstimator) (renders : ℕ) (flags : List Bool) (render capture : List Float) where
   pub updated_none : flagged 0 flags ≡ [] → counted s ≡ updated s renders flags render capture
@@ -30,7 +30,7 @@ module _ (s : ErlEstimator) (renders : ℕ) (flags : List Bool) (render capture 
 
     pub updated-on :
         s.startup_phase_length_blocks ≤ (counted s).blocks_since_reset
-        → learntFrom (counted s) (reduced render (tab renders (λ ch. ch))) (reduced capture (first ∷ others))
+        → learnt_from (counted s) (reduced render (tab renders (λ ch. ch))) (reduced capture (first ∷ others))
         ≡ updated s renders flags render capture
     unfolding updated
     updated-on h = simp (e, some, le-ltb _ _ h)

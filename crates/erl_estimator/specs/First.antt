@@ -4,6 +4,6 @@ use Rattle.erl_estimator.specs.declared.reduce.FirstConverged.{FirstConverged}
 use Rattle.erl_estimator.specs.declared.reduce.FirstConverged.TheVariants.{Channel, Nothing}
 
 -- the first channel whose flag stands, counted from ch on, or that none does
-unfoldable pub firstFrom : ℕ → List Bool → FirstConverged
-firstFrom ch [] = Nothing
-firstFrom ch (flag ∷ flags) = cond flag (Channel ch) (firstFrom (suc ch) flags)
+unfoldable pub first_from : ℕ → List Bool → FirstConverged
+first_from ch [] = Nothing
+first_from ch (flag ∷ flags) = cond flag (Channel ch) (first_from (suc ch) flags)

@@ -1,6 +1,6 @@
 // Which calls of update are turned away.
 ghost use Rattle.std.specs.Prelude.{◌≡◌};
-ghost use Rattle.erl_estimator.specs.Erl.{channelsOk, lengthsOk, updateRefusal};
+ghost use Rattle.erl_estimator.specs.Erl.{channels_ok, lengths_ok, update_refusal};
 
 use aec3_common::refusal::{ACCEPTED, BAD_CHANNEL_COUNT, BAD_LENGTH, BAD_VALUE};
 use aec3_common::settings::{capture_channels_ok, render_channels_ok};
@@ -8,7 +8,7 @@ use aec3_common::spectra::are_spectra;
 use aec3_common::values_ok;
 
 fn channels_ok(captures: usize, renders: usize) -> bool
-    ensures { result ≡ channelsOk captures renders }
+    ensures { result ≡ channels_ok captures renders }
 {
     capture_channels_ok(captures) & render_channels_ok(renders)
 }
@@ -20,7 +20,7 @@ fn lengths_ok(
     render: &[f32],
     capture: &[f32],
 ) -> bool
-    ensures { result ≡ lengthsOk captures renders converged.now render.now capture.now }
+    ensures { result ≡ lengths_ok captures renders converged.now render.now capture.now }
 {
     (converged.len() == captures)
         & are_spectra(render.len(), renders)
@@ -28,7 +28,7 @@ fn lengths_ok(
 }
 
 // The first of 2, 5 and 6, or 0.
-#[tactic(auto, unfolding(crate::specs::Erl::updateRefusal))]
+#[tactic(auto, unfolding(crate::specs::Erl::update_refusal))]
 pub fn update_refusal(
     captures: usize,
     renders: usize,
@@ -36,7 +36,7 @@ pub fn update_refusal(
     render: &[f32],
     capture: &[f32],
 ) -> u32
-    ensures { result ≡ updateRefusal captures renders converged.now render.now capture.now }
+    ensures { result ≡ update_refusal captures renders converged.now render.now capture.now }
 {
     if channels_ok(captures, renders) {
         if lengths_ok(captures, renders, converged, render, capture) {

@@ -5,7 +5,7 @@ mod judge;
 mod reduce;
 
 ghost use Rattle.std.specs.Prelude.{◌≡◌, ◌*◌, ◌≤◌, ◌<◌, length};
-ghost use Rattle.erl_estimator.specs.Erl.{started, counted as Erl·counted, afterReset, learntFrom, updated as Erl·updated, updateAnswer};
+ghost use Rattle.erl_estimator.specs.Erl.{started, counted as Erl·counted, after_reset, learnt_from, updated as Erl·updated, update_answer};
 ghost use Rattle.erl_estimator.specs.Range.{FiguresInRange};
 
 use aec3_common::counts::one_more;
@@ -50,9 +50,9 @@ impl ErlEstimator {
     }
 
     // Clears the block count; the figures stay.
-    #[tactic(auto, unfolding(crate::specs::Erl::afterReset))]
+    #[tactic(auto, unfolding(crate::specs::Erl::after_reset))]
     pub fn reset(mut self) -> ErlEstimator
-        ensures { result ≡ afterReset self }
+        ensures { result ≡ after_reset self }
     {
         self.blocks_since_reset = 0;
         self
@@ -67,7 +67,7 @@ impl ErlEstimator {
         render_spectra: &[f32],
         capture_spectra: &[f32],
     ) -> ErlUpdate
-        ensures { result ≡ updateAnswer self num_capture_channels num_render_channels converged_filters.now render_spectra.now capture_spectra.now }
+        ensures { result ≡ update_answer self num_capture_channels num_render_channels converged_filters.now render_spectra.now capture_spectra.now }
     {
         let refused = update_refusal(
             num_capture_channels,
@@ -129,7 +129,7 @@ impl ErlEstimator {
 
     // Every figure one block later, by the reduced spectra. The arrays are made anew: a copy changed in place took longer.
     fn learnt_from(self, render: &[f32; 65], capture: &[f32; 65]) -> ErlEstimator
-        ensures { result ≡ learntFrom self render.now capture.now }
+        ensures { result ≡ learnt_from self render.now capture.now }
     {
         let before = Figure {
             erl: self.erl_time_domain,

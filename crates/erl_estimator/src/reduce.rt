@@ -5,7 +5,7 @@ ghost use Rattle.aec3_common.specs.Lists.{tab};
 ghost use Rattle.aec3_common.specs.Spectra.{flagged};
 ghost use Rattle.aec3_common.specs.Binary32.{larger as Binary32·larger};
 ghost use Rattle.erl_estimator.specs.Erl.{reduced};
-ghost use Rattle.erl_estimator.specs.First.{firstFrom};
+ghost use Rattle.erl_estimator.specs.First.{first_from};
 
 use aec3_common::larger;
 use aec3_common::spectra::part;
@@ -19,7 +19,7 @@ pub enum FirstConverged {
 
 // One walk that ends at the first converged channel.
 pub fn first_converged(converged: &[bool]) -> FirstConverged
-    ensures { result ≡ firstFrom 0 converged.now }
+    ensures { result ≡ first_from 0 converged.now }
 {
     let mut ch = 0;
     loop {

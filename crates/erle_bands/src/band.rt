@@ -1,6 +1,6 @@
 // One band: how its streams move, how long it is held, how its compensated value decays.
 ghost use Rattle.std.specs.Prelude.{◌≡◌, cond, not, ◌&&◌};
-ghost use Rattle.erle_bands.specs.Band.{share as Band·share, streamMoved, sumWith, lowWith, hasRatio, waitsLearnt, holdLearnt, holdLess, decayed as Band·decayed, compensatedBeside, waitsBeside};
+ghost use Rattle.erle_bands.specs.Band.{share as Band·share, stream_moved, sum_with, low_with, has_ratio, waits_learnt, hold_learnt, hold_less, decayed as Band·decayed, compensated_beside, waits_beside};
 
 use aec3_common::counts::fallen;
 use aec3_common::{X2_BAND_ENERGY_THRESHOLD, clamp, larger, moved};
@@ -12,17 +12,17 @@ const BLOCKS_FOR_ONSET_DETECTION: i32 = 250;
 const BLOCKS_OF_DECAY: i32 = 150;
 
 // A held sum with a power added.
-#[tactic(auto, unfolding(crate::specs::Band::sumWith))]
+#[tactic(auto, unfolding(crate::specs::Band::sum_with))]
 pub fn sum_with(sum: f32, power: f32, anew: bool) -> f32
-    ensures { result ≡ sumWith anew sum power }
+    ensures { result ≡ sum_with anew sum power }
 {
     if anew { 0.0 + power } else { sum + power }
 }
 
 // Low energy noted, before or now.
-#[tactic(auto, unfolding(crate::specs::Band::lowWith))]
+#[tactic(auto, unfolding(crate::specs::Band::low_with))]
 pub fn low_with(low: bool, x2: f32, anew: bool) -> bool
-    ensures { result ≡ lowWith anew low x2 }
+    ensures { result ≡ low_with anew low x2 }
 {
     if anew {
         x2 < X2_BAND_ENERGY_THRESHOLD
@@ -43,7 +43,7 @@ fn share(new_erle: f32, low_render_energy: bool, erle: f32) -> f32
 }
 
 // A stream's value with a new ratio.
-#[tactic(auto, unfolding(crate::specs::Band::streamMoved))]
+#[tactic(auto, unfolding(crate::specs::Band::stream_moved))]
 fn update_erle_band(
     erle: f32,
     new_erle: f32,
@@ -51,7 +51,7 @@ fn update_erle_band(
     min_erle: f32,
     max_erle: f32,
 ) -> f32
-    ensures { result ≡ streamMoved min_erle max_erle new_erle low_render_energy erle }
+    ensures { result ≡ stream_moved min_erle max_erle new_erle low_render_energy erle }
 {
     let alpha = share(new_erle, low_render_energy, erle);
     clamp(moved(erle, new_erle, alpha), min_erle, max_erle)
@@ -66,7 +66,7 @@ pub fn stream_by(
     min_erle: f32,
     max_erle: f32,
 ) -> f32
-    ensures { result ≡ cond (hasRatio e2) (streamMoved min_erle max_erle new_erle low_render_energy erle) erle }
+    ensures { result ≡ cond (has_ratio e2) (stream_moved min_erle max_erle new_erle low_render_energy erle) erle }
 {
     if e2 > 0.0 {
         update_erle_band(erle, new_erle, low_render_energy, min_erle, max_erle)
@@ -77,15 +77,15 @@ pub fn stream_by(
 
 // Whether a band has a new ratio without low energy.
 fn onset_by(e2: f32, low_render_energy: bool) -> bool
-    ensures { result ≡ hasRatio e2 && not low_render_energy }
+    ensures { result ≡ has_ratio e2 && not low_render_energy }
 {
     (e2 > 0.0) & !low_render_energy
 }
 
 // Whether it waits for an onset still.
-#[tactic(auto, unfolding(crate::specs::Band::waitsLearnt))]
+#[tactic(auto, unfolding(crate::specs::Band::waits_learnt))]
 pub fn wait_by(waits: bool, e2: f32, low_render_energy: bool) -> bool
-    ensures { result ≡ cond (hasRatio e2) (waitsLearnt low_render_energy waits) waits }
+    ensures { result ≡ cond (has_ratio e2) (waits_learnt low_render_energy waits) waits }
 {
     if onset_by(e2, low_render_energy) {
         false
@@ -95,9 +95,9 @@ pub fn wait_by(waits: bool, e2: f32, low_render_energy: bool) -> bool
 }
 
 // Its hold, which begins again there.
-#[tactic(auto, unfolding(crate::specs::Band::holdLearnt))]
+#[tactic(auto, unfolding(crate::specs::Band::hold_learnt))]
 pub fn hold_by(hold: i32, e2: f32, low_render_energy: bool) -> i32
-    ensures { result ≡ cond (hasRatio e2) (holdLearnt low_render_energy hold) hold }
+    ensures { result ≡ cond (has_ratio e2) (hold_learnt low_render_energy hold) hold }
 {
     if onset_by(e2, low_render_energy) {
         BLOCKS_FOR_ONSET_DETECTION
@@ -107,9 +107,9 @@ pub fn hold_by(hold: i32, e2: f32, low_render_energy: bool) -> i32
 }
 
 // A hold one block later.
-#[tactic(auto, unfolding(crate::specs::Band::holdLess))]
+#[tactic(auto, unfolding(crate::specs::Band::hold_less))]
 pub fn hold_less(hold: i32) -> i32
-    ensures { result ≡ holdLess hold }
+    ensures { result ≡ hold_less hold }
 {
     let h = fallen(hold);
     if h <= 0 { 0 } else { h }
@@ -128,9 +128,9 @@ fn decayed(min_erle: f32, onset: f32, erle: f32) -> f32
 }
 
 // The compensated value beside the hold after the block.
-#[tactic(auto, unfolding(crate::specs::Band::compensatedBeside))]
+#[tactic(auto, unfolding(crate::specs::Band::compensated_beside))]
 pub fn compensated_beside(min_erle: f32, hold: i32, onset: f32, erle: f32) -> f32
-    ensures { result ≡ compensatedBeside min_erle hold onset erle }
+    ensures { result ≡ compensated_beside min_erle hold onset erle }
 {
     if hold <= BLOCKS_OF_DECAY {
         decayed(min_erle, onset, erle)
@@ -140,9 +140,9 @@ pub fn compensated_beside(min_erle: f32, hold: i32, onset: f32, erle: f32) -> f3
 }
 
 // Whether the band waits, beside the hold after the block.
-#[tactic(auto, unfolding(crate::specs::Band::waitsBeside))]
+#[tactic(auto, unfolding(crate::specs::Band::waits_beside))]
 pub fn wait_beside(hold: i32, waits: bool) -> bool
-    ensures { result ≡ waitsBeside hold waits }
+    ensures { result ≡ waits_beside hold waits }
 {
     if hold <= 0 { true } else { waits }
 }

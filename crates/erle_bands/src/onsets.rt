@@ -1,13 +1,13 @@
 // Waiting, holds and compensated values of a channel, bands 1 to 63.
 ghost use Rattle.std.specs.Prelude.{◌≡◌, true, length};
-ghost use Rattle.erle_bands.specs.Steps.{allWaitsLearnt, allHoldsLearnt, allHoldsLess, allCompensatedBeside, allWaitsBeside};
+ghost use Rattle.erle_bands.specs.Steps.{all_waits_learnt, all_holds_learnt, all_holds_less, all_compensated_beside, all_waits_beside};
 
 use crate::band::{compensated_beside, hold_by, hold_less, wait_beside, wait_by};
 
 // A band with a new ratio, without low energy, stops waiting.
 pub fn stop_waiting(waits: &mut [bool; 65], e2: &[f32; 65], low: &[bool; 65])
     requires { length waits.old ≡ 65 }
-    ensures { waits.new ≡ allWaitsLearnt e2.now low.now waits.old }
+    ensures { waits.new ≡ all_waits_learnt e2.now low.now waits.old }
 {
     for k in 1..64 {
         waits[k] = wait_by(waits[k], e2[k], low[k]);
@@ -17,7 +17,7 @@ pub fn stop_waiting(waits: &mut [bool; 65], e2: &[f32; 65], low: &[bool; 65])
 // And its hold begins again.
 pub fn hold_again(holds: &mut [i32; 65], e2: &[f32; 65], low: &[bool; 65])
     requires { length holds.old ≡ 65 }
-    ensures { holds.new ≡ allHoldsLearnt e2.now low.now holds.old }
+    ensures { holds.new ≡ all_holds_learnt e2.now low.now holds.old }
 {
     for k in 1..64 {
         holds[k] = hold_by(holds[k], e2[k], low[k]);
@@ -26,7 +26,7 @@ pub fn hold_again(holds: &mut [i32; 65], e2: &[f32; 65], low: &[bool; 65])
 
 fn lower_all(holds: &mut [i32; 65])
     requires { length holds.old ≡ 65 }
-    ensures { holds.new ≡ allHoldsLess true holds.old }
+    ensures { holds.new ≡ all_holds_less true holds.old }
 {
     for k in 1..64 {
         holds[k] = hold_less(holds[k]);
@@ -36,7 +36,7 @@ fn lower_all(holds: &mut [i32; 65])
 // One block less to hold, where onset detection is on.
 pub fn lower_holds(holds: &mut [i32; 65], on: bool)
     requires { length holds.old ≡ 65 }
-    ensures { holds.new ≡ allHoldsLess on holds.old }
+    ensures { holds.new ≡ all_holds_less on holds.old }
 {
     if on {
         lower_all(holds);
@@ -45,7 +45,7 @@ pub fn lower_holds(holds: &mut [i32; 65], on: bool)
 
 fn decay_all(erle: &mut [f32; 65], onsets: &[f32; 65], holds: &[i32; 65], min: f32)
     requires { length erle.old ≡ 65 }
-    ensures { erle.new ≡ allCompensatedBeside true min holds.now onsets.now erle.old }
+    ensures { erle.new ≡ all_compensated_beside true min holds.now onsets.now erle.old }
 {
     for k in 1..64 {
         erle[k] = compensated_beside(min, holds[k], onsets[k], erle[k]);
@@ -61,7 +61,7 @@ pub fn decay_compensated(
     on: bool,
 )
     requires { length erle.old ≡ 65 }
-    ensures { erle.new ≡ allCompensatedBeside on min holds.now onsets.now erle.old }
+    ensures { erle.new ≡ all_compensated_beside on min holds.now onsets.now erle.old }
 {
     if on {
         decay_all(erle, onsets, holds, min);
@@ -70,7 +70,7 @@ pub fn decay_compensated(
 
 fn wait_all(waits: &mut [bool; 65], holds: &[i32; 65])
     requires { length waits.old ≡ 65 }
-    ensures { waits.new ≡ allWaitsBeside true holds.now waits.old }
+    ensures { waits.new ≡ all_waits_beside true holds.now waits.old }
 {
     for k in 1..64 {
         waits[k] = wait_beside(holds[k], waits[k]);
@@ -80,7 +80,7 @@ fn wait_all(waits: &mut [bool; 65], holds: &[i32; 65])
 // Waiting beside the holds after the block.
 pub fn wait_again(waits: &mut [bool; 65], holds: &[i32; 65], on: bool)
     requires { length waits.old ≡ 65 }
-    ensures { waits.new ≡ allWaitsBeside on holds.now waits.old }
+    ensures { waits.new ≡ all_waits_beside on holds.now waits.old }
 {
     if on {
         wait_all(waits, holds);

@@ -1,13 +1,13 @@
 // What a channel holds of its blocks, band by band.
 ghost use Rattle.std.specs.Prelude.{◌≡◌, length};
-ghost use Rattle.erle_bands.specs.Steps.{sumsWith, lowsWith, ratiosOf};
+ghost use Rattle.erle_bands.specs.Steps.{sums_with, lows_with, ratios_of};
 
 use crate::band::{low_with, sum_with};
 
 // Powers added to the held sums, which begin anew after a sixth point.
 pub fn add_powers(sums: &mut [f32; 65], powers: &[f32], anew: bool)
     requires { (length sums.old ≡ 65) × (length powers.now ≡ 65) }
-    ensures { sums.new ≡ sumsWith anew sums.old powers.now }
+    ensures { sums.new ≡ sums_with anew sums.old powers.now }
 {
     for k in 0..65 {
         sums[k] = sum_with(sums[k], powers[k], anew);
@@ -17,7 +17,7 @@ pub fn add_powers(sums: &mut [f32; 65], powers: &[f32], anew: bool)
 // Low energy noted beside the sums, where render is below the threshold.
 pub fn note_low_energy(low: &mut [bool; 65], x2: &[f32], anew: bool)
     requires { (length low.old ≡ 65) × (length x2.now ≡ 65) }
-    ensures { low.new ≡ lowsWith anew low.old x2.now }
+    ensures { low.new ≡ lows_with anew low.old x2.now }
 {
     for k in 0..65 {
         low[k] = low_with(low[k], x2[k], anew);
@@ -26,7 +26,7 @@ pub fn note_low_energy(low: &mut [bool; 65], x2: &[f32], anew: bool)
 
 // The ratios of the sums, each computed once. Where the residual sum is 0 nothing reads it.
 pub fn ratios(y2: &[f32; 65], e2: &[f32; 65]) -> [f32; 65]
-    ensures { result ≡ ratiosOf y2.now e2.now }
+    ensures { result ≡ ratios_of y2.now e2.now }
 {
     let mut r = [0.0; 65];
     for k in 0..65 {

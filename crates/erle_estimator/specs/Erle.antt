@@ -2,59 +2,59 @@
 use Rattle.std.specs.Prelude.{Bool, true, false, cond, ◌&&◌, List, ℕ, ltb, eqb, Float}
 use Rattle.aec3_common.specs.declared.settings.ErleSettings.{ErleSettings}
 use Rattle.aec3_common.specs.Binary32.{zero32}
-use Rattle.aec3_common.specs.Counts.{oneMore}
-use Rattle.aec3_common.specs.Refusal.{unless, accepted, badState}
-use Rattle.aec3_common.specs.Settings.{settingsRefusal}
-use Rattle.aec3_common.specs.Streams.{erleOf}
+use Rattle.aec3_common.specs.Counts.{one_more}
+use Rattle.aec3_common.specs.Refusal.{unless, accepted, bad_state}
+use Rattle.aec3_common.specs.Settings.{settings_refusal}
+use Rattle.aec3_common.specs.Streams.{erle_of}
 use Rattle.subband_erle_estimator.specs.declared.channel.SubbandChannel.{SubbandChannel}
-use Rattle.subband_erle_estimator.specs.Subband.{channelAt as Subband·channelAt, stateOk as Subband·stateOk, started as Subband·started, updated as Subband·updated}
+use Rattle.subband_erle_estimator.specs.Subband.{channel_at as Subband·channel_at, state_ok as Subband·state_ok, started as Subband·started, updated as Subband·updated}
 use Rattle.signal_dependent_erle_estimator.specs.declared.channel.SignalDependentChannel.{SignalDependentChannel}
-use Rattle.signal_dependent_erle_estimator.specs.SignalDependent.{stateOk as SignalDependent·stateOk, refusalBy, boundariesOf, started as SignalDependent·started, afterAccepted as SignalDependent·afterAccepted}
+use Rattle.signal_dependent_erle_estimator.specs.SignalDependent.{state_ok as SignalDependent·state_ok, refusal_by, boundaries_of, started as SignalDependent·started, after_accepted as SignalDependent·after_accepted}
 use Rattle.fullband_channel.specs.declared.instantaneous.OptionalNumber.TheVariants.{Absent}
 use Rattle.fullband_erle_estimator.specs.declared.FullBandFigure.{FullBandFigure}
 use Rattle.fullband_erle_estimator.specs.declared.QualityAnswer.{QualityAnswer}
-use Rattle.fullband_erle_estimator.specs.FullBand.{stateOk as FullBand·stateOk, started as FullBand·started, updated as FullBand·updated, fullbandLog2, decibels, figureCase, qualityAnswer as FullBand·qualityAnswer}
+use Rattle.fullband_erle_estimator.specs.FullBand.{state_ok as FullBand·state_ok, started as FullBand·started, updated as FullBand·updated, fullband_log2, decibels, figure_case, quality_answer as FullBand·quality_answer}
 use Rattle.erle_estimator.specs.declared.ErleEstimator.{ErleEstimator}
 use Rattle.erle_estimator.specs.declared.ErleAnswer.{ErleAnswer}
 use Rattle.erle_estimator.specs.declared.streams.ErleStreams.{ErleStreams}
-use Rattle.erle_estimator.specs.Parts.{subbandSettings, signalSettings, fullbandSettings, subbandPart, signalPart, fullbandPart, withRecords}
+use Rattle.erle_estimator.specs.Parts.{subband_settings, signal_settings, fullband_settings, subband_part, signal_part, fullband_part, with_records}
 -- what an update is lent, and numbers 5 and 6 of it
 pub use Rattle.signal_dependent_erle_estimator.specs.SignalDependent.{Update}
-unfoldable pub use Rattle.signal_dependent_erle_estimator.specs.SignalDependent.{lentLengthsOk, lentValuesOk}
+unfoldable pub use Rattle.signal_dependent_erle_estimator.specs.SignalDependent.{lent_lengths_ok, lent_values_ok}
 
 -- ---- calls turned away
 
 -- Number 20: each part passes, the signal-dependent one with one section too.
-unfoldable pub stateOk : ErleEstimator → Bool
-stateOk s = Subband·stateOk (subbandPart s) && SignalDependent·stateOk (signalPart s) && FullBand·stateOk (fullbandPart s)
+unfoldable pub state_ok : ErleEstimator → Bool
+state_ok s = Subband·state_ok (subband_part s) && SignalDependent·state_ok (signal_part s) && FullBand·state_ok (fullband_part s)
 
 -- a reset and the readers of the whole state are turned away under 20 alone
-unfoldable pub stateRefusal : ErleEstimator → ℕ
-stateRefusal s = unless (stateOk s) badState accepted
+unfoldable pub state_refusal : ErleEstimator → ℕ
+state_refusal s = unless (state_ok s) bad_state accepted
 
 -- the first of 20, 21, 2, 4, 9, 5 and 6, or 0
-unfoldable pub updateRefusal : ErleEstimator → Update → ℕ
-updateRefusal s u =
-    refusalBy (stateOk s) (signalSettings s.settings) u (lentLengthsOk s.settings.filter_length_blocks u) (lentValuesOk u)
+unfoldable pub update_refusal : ErleEstimator → Update → ℕ
+update_refusal s u =
+    refusal_by (state_ok s) (signal_settings s.settings) u (lent_lengths_ok s.settings.filter_length_blocks u) (lent_values_ok u)
 
 -- ---- start, reset, update
 
 -- every part as a start leaves it, with a block count
-unfoldable pub startedWith : ℕ → ℕ → ErleSettings → ErleEstimator
-startedWith startup blocks g =
+unfoldable pub started_with : ℕ → ℕ → ErleSettings → ErleEstimator
+started_with startup blocks g =
     record {
       settings = g;
       startup_phase_length_blocks = startup;
       blocks_since_reset = blocks;
-      section_boundaries_blocks = boundariesOf (signalSettings g);
-      subband = (Subband·started (subbandSettings g)).channels;
-      signal_dependent = (SignalDependent·started (signalSettings g)).channels;
-      fullband = (FullBand·started (fullbandSettings g)).channels;
+      section_boundaries_blocks = boundaries_of (signal_settings g);
+      subband = (Subband·started (subband_settings g)).channels;
+      signal_dependent = (SignalDependent·started (signal_settings g)).channels;
+      fullband = (FullBand·started (fullband_settings g)).channels;
     }
 
 -- what a refused start answers with: settings that number 20 turns away
-unfoldable pub refusedSettings : ErleSettings
-refusedSettings =
+unfoldable pub refused_settings : ErleSettings
+refused_settings =
     record {
       min = zero32;
       max_l = zero32;
@@ -69,51 +69,51 @@ refusedSettings =
     }
 
 -- a start has counted no block
-unfoldable pub startAnswer : ℕ → ErleSettings → ErleAnswer
-startAnswer startup g =
-    let n = settingsRefusal g in
-    record { state = startedWith startup 0 (cond (eqb n accepted) g refusedSettings); refused = n }
+unfoldable pub start_answer : ℕ → ErleSettings → ErleAnswer
+start_answer startup g =
+    let n = settings_refusal g in
+    record { state = started_with startup 0 (cond (eqb n accepted) g refused_settings); refused = n }
 
 -- a reset clears the count only if the delay changed
-unfoldable pub blocksKept : Bool → ℕ → ℕ
-blocksKept delayChange blocks = cond delayChange 0 blocks
+unfoldable pub blocks_kept : Bool → ℕ → ℕ
+blocks_kept delay_change blocks = cond delay_change 0 blocks
 
 -- A reset leaves every part as a start with the state's settings does, in all four records; the startup count stays.
-unfoldable pub afterReset : ErleEstimator → Bool → ErleEstimator
-afterReset s delayChange =
-    startedWith s.startup_phase_length_blocks (blocksKept delayChange s.blocks_since_reset) s.settings
+unfoldable pub after_reset : ErleEstimator → Bool → ErleEstimator
+after_reset s delay_change =
+    started_with s.startup_phase_length_blocks (blocks_kept delay_change s.blocks_since_reset) s.settings
 
-unfoldable pub resetAnswer : ErleEstimator → Bool → ErleAnswer
-resetAnswer s delayChange =
-    let n = stateRefusal s in
-    record { state = cond (eqb n accepted) (afterReset s delayChange) s; refused = n }
+unfoldable pub reset_answer : ErleEstimator → Bool → ErleAnswer
+reset_answer s delay_change =
+    let n = state_refusal s in
+    record { state = cond (eqb n accepted) (after_reset s delay_change) s; refused = n }
 
 -- one block more
 unfoldable pub counted : ErleEstimator → ErleEstimator
-counted s = withRecords s (oneMore s.blocks_since_reset) s.subband s.signal_dependent s.fullband
+counted s = with_records s (one_more s.blocks_since_reset) s.subband s.signal_dependent s.fullband
 
 -- The three parts in the Rust's order: the subband part; the signal-dependent part, which with one section stays as it is and otherwise
 -- is lent each channel's subband streams after this update; the fullband part. (With onset detection off the Rust lends the plain stream twice; the
 -- part then reads no compensated one.) The count is not touched here.
 unfoldable pub updated : ErleEstimator → Update → ErleEstimator
 updated s u =
-    let subband = Subband·updated (subbandPart s) u.converged u.render u.capture u.residual in
-    let own = Subband·channelAt subband in
-    let signal = SignalDependent·afterAccepted (signalPart s) u (λ ch. (own ch).erle) (λ ch. (own ch).erle_onset_compensated) in
-    let fullband = FullBand·updated (fullbandPart s) u.converged u.render u.capture u.residual in
-    withRecords s s.blocks_since_reset subband.channels signal.channels fullband.channels
+    let subband = Subband·updated (subband_part s) u.converged u.render u.capture u.residual in
+    let own = Subband·channel_at subband in
+    let signal = SignalDependent·after_accepted (signal_part s) u (λ ch. (own ch).erle) (λ ch. (own ch).erle_onset_compensated) in
+    let fullband = FullBand·updated (fullband_part s) u.converged u.render u.capture u.residual in
+    with_records s s.blocks_since_reset subband.channels signal.channels fullband.channels
 
 -- Each accepted update counts one block first; if the count is then below the startup count, nothing else happens.
-unfoldable pub afterAccepted : ErleEstimator → Update → ErleEstimator
-afterAccepted s u =
+unfoldable pub after_accepted : ErleEstimator → Update → ErleEstimator
+after_accepted s u =
     let c = counted s in
     cond (ltb c.blocks_since_reset c.startup_phase_length_blocks) c (updated c u)
 
 -- The answer: the next state and 0, or the state as it was and the refusal.
-unfoldable pub updateAnswer : ErleEstimator → Update → ErleAnswer
-updateAnswer s u =
-    let n = updateRefusal s u in
-    record { state = cond (eqb n accepted) (afterAccepted s u) s; refused = n }
+unfoldable pub update_answer : ErleEstimator → Update → ErleAnswer
+update_answer s u =
+    let n = update_refusal s u in
+    record { state = cond (eqb n accepted) (after_accepted s u) s; refused = n }
 
 -- ---- figures
 
@@ -123,31 +123,31 @@ sectioned g = ltb 1 g.num_sections
 
 -- What `erle` answers for a channel, of its two records: with two or more sections a signal-dependent stream, else a subband one; the
 -- compensated one where it is asked for and onset detection is on, else the plain one.
-unfoldable pub erleShown : ErleSettings → SubbandChannel → SignalDependentChannel → Bool → List Float
-erleShown g subband signal onsetCompensated =
+unfoldable pub erle_shown : ErleSettings → SubbandChannel → SignalDependentChannel → Bool → List Float
+erle_shown g subband signal onset_compensated =
     cond (sectioned g)
-    (erleOf signal.erle signal.erle_onset_compensated onsetCompensated g.onset_detection)
-    (erleOf subband.erle subband.erle_onset_compensated onsetCompensated g.onset_detection)
+    (erle_of signal.erle signal.erle_onset_compensated onset_compensated g.onset_detection)
+    (erle_of subband.erle subband.erle_onset_compensated onset_compensated g.onset_detection)
 
 -- A channel's streams: what `erle` answers, without and with the compensated stream asked for; the uncapped answer, which with two or more
 -- sections is the signal-dependent plain stream; the onset values, always the subband part's.
-unfoldable pub streamsShown : ErleSettings → SubbandChannel → SignalDependentChannel → ErleStreams
-streamsShown g subband signal =
+unfoldable pub streams_shown : ErleSettings → SubbandChannel → SignalDependentChannel → ErleStreams
+streams_shown g subband signal =
     record {
-      plain = erleShown g subband signal false;
-      compensated = erleShown g subband signal true;
+      plain = erle_shown g subband signal false;
+      compensated = erle_shown g subband signal true;
       unbounded = cond (sectioned g) signal.erle subband.erle_unbounded;
       onsets = subband.erle_onsets;
     }
 
-unfoldable pub log2Answer : ErleEstimator → FullBandFigure
-log2Answer s = figureCase (stateRefusal s) (fullbandLog2 (fullbandPart s))
+unfoldable pub log2_answer : ErleEstimator → FullBandFigure
+log2_answer s = figure_case (state_refusal s) (fullband_log2 (fullband_part s))
 
-unfoldable pub decibelAnswer : ErleEstimator → FullBandFigure
-decibelAnswer s = figureCase (stateRefusal s) (decibels (fullbandLog2 (fullbandPart s)))
+unfoldable pub decibel_answer : ErleEstimator → FullBandFigure
+decibel_answer s = figure_case (state_refusal s) (decibels (fullband_log2 (fullband_part s)))
 
 -- the quality of a channel's linear filter, absent too where the state is turned away or has no such channel
-unfoldable pub qualityAnswer : ErleEstimator → ℕ → QualityAnswer
-qualityAnswer s ch =
-    let n = stateRefusal s in
-    record { quality = cond (eqb n accepted) (FullBand·qualityAnswer (fullbandPart s) ch).quality Absent; refused = n }
+unfoldable pub quality_answer : ErleEstimator → ℕ → QualityAnswer
+quality_answer s ch =
+    let n = state_refusal s in
+    record { quality = cond (eqb n accepted) (FullBand·quality_answer (fullband_part s) ch).quality Absent; refused = n }

@@ -14,8 +14,8 @@ use Rattle.erle_estimator.specs.declared.ErleEstimator.{ErleEstimator}
 
 -- ---- settings
 
-abbrev pub subbandSettings : ErleSettings → SubbandSettings
-subbandSettings g =
+abbrev pub subband_settings : ErleSettings → SubbandSettings
+subband_settings g =
     record {
       min = g.min;
       max_l = g.max_l;
@@ -24,8 +24,8 @@ subbandSettings g =
       num_capture_channels = g.num_capture_channels;
     }
 
-abbrev pub signalSettings : ErleSettings → SignalDependentSettings
-signalSettings g =
+abbrev pub signal_settings : ErleSettings → SignalDependentSettings
+signal_settings g =
     record {
       min = g.min;
       max_l = g.max_l;
@@ -37,8 +37,8 @@ signalSettings g =
       delay_headroom_samples = g.delay_headroom_samples;
     }
 
-abbrev pub fullbandSettings : ErleSettings → FullBandSettings
-fullbandSettings g =
+abbrev pub fullband_settings : ErleSettings → FullBandSettings
+fullband_settings g =
     record {
       min = g.min;
       max_l = g.max_l;
@@ -51,23 +51,23 @@ fullbandSettings g =
 -- ---- states
 
 -- a part's own state: its records, and its share of the one set of settings
-abbrev pub subbandPart : ErleEstimator → SubbandErleEstimator
-subbandPart s = record { settings = subbandSettings s.settings; channels = s.subband }
+abbrev pub subband_part : ErleEstimator → SubbandErleEstimator
+subband_part s = record { settings = subband_settings s.settings; channels = s.subband }
 
-abbrev pub signalPart : ErleEstimator → SignalDependentErleEstimator
-signalPart s =
+abbrev pub signal_part : ErleEstimator → SignalDependentErleEstimator
+signal_part s =
     record {
-      settings = signalSettings s.settings;
+      settings = signal_settings s.settings;
       section_boundaries_blocks = s.section_boundaries_blocks;
       channels = s.signal_dependent;
     }
 
-abbrev pub fullbandPart : ErleEstimator → FullBandErleEstimator
-fullbandPart s = record { settings = fullbandSettings s.settings; channels = s.fullband }
+abbrev pub fullband_part : ErleEstimator → FullBandErleEstimator
+fullband_part s = record { settings = fullband_settings s.settings; channels = s.fullband }
 
 -- the estimator with a block count and records of the three parts; whatever else it holds stays
-abbrev pub withRecords : ErleEstimator → ℕ → List SubbandChannel → List SignalDependentChannel → List FullBandChannel → ErleEstimator
-withRecords s blocks subband signal fullband =
+abbrev pub with_records : ErleEstimator → ℕ → List SubbandChannel → List SignalDependentChannel → List FullBandChannel → ErleEstimator
+with_records s blocks subband signal fullband =
     record {
       settings = s.settings;
       startup_phase_length_blocks = s.startup_phase_length_blocks;

@@ -1,10 +1,10 @@
 -- Lists of calls: the state that they leave is taken up again.
 use Rattle.std.specs.Prelude.{◌≡◌, Bool, List}
 use Rattle.aec3_common.specs.Calls.{run_by}
-use Rattle.aec3_common.specs.Refusal.{accepted, badState}
+use Rattle.aec3_common.specs.Refusal.{accepted, bad_state}
 use Rattle.erle_estimator.specs.declared.ErleEstimator.{ErleEstimator}
 use Rattle.erle_estimator.specs.declared.ErleAnswer.{ErleAnswer}
-use Rattle.erle_estimator.specs.Erle.{Update, stateRefusal, resetAnswer, updateAnswer}
+use Rattle.erle_estimator.specs.Erle.{Update, state_refusal, reset_answer, update_answer}
 
 -- a call, accepted or refused: an update; or a reset, and whether the delay changed
 pub data Call : Type 0 where
@@ -13,8 +13,8 @@ pub data Call : Type 0 where
 
 -- what it is answered with
 unfoldable pub answer : ErleEstimator → Call → ErleAnswer
-answer s (update u) = updateAnswer s u
-answer s (reset delayChange) = resetAnswer s delayChange
+answer s (update u) = update_answer s u
+answer s (reset delay_change) = reset_answer s delay_change
 
 -- each call takes up the state that the last one left; a refused one passes on what it got
 unfoldable pub run : ErleEstimator → List Call → ErleEstimator
@@ -22,8 +22,8 @@ run s calls = run_by (λ t c. (answer t c).state) s calls
 
 -- no update or reset of the state is refused under 20, and no reading of a figure or a quality at all
 pub record NotBad (s : ErleEstimator) : Type 0 where
-  pub calls : (next : Call) → (answer s next).refused ≡ badState → ⊥
-  pub readings : stateRefusal s ≡ accepted
+  pub calls : (next : Call) → (answer s next).refused ≡ bad_state → ⊥
+  pub readings : state_refusal s ≡ accepted
 
 -- Claim, which an accepted start promises of the state that it answers with: after any list of updates and resets, refused calls
 -- among them, no call is refused under 20.

@@ -2,8 +2,8 @@
 use Rattle.std.specs.Prelude.{cond, ℕ, eqb}
 use Rattle.aec3_common.specs.declared.settings.ErleSettings.{ErleSettings}
 use Rattle.aec3_common.specs.Refusal.{accepted}
-use Rattle.aec3_common.specs.Settings.{settingsRefusal}
+use Rattle.aec3_common.specs.Settings.{settings_refusal}
 
 -- how many records number 20 looks at: none where the settings break 1, 2 or 3
-unfoldable pub judgedChannels : ErleSettings → ℕ
-judgedChannels g = cond (eqb (settingsRefusal g) accepted) g.num_capture_channels 0
+unfoldable pub judged_channels : ErleSettings → ℕ
+judged_channels g = cond (eqb (settings_refusal g) accepted) g.num_capture_channels 0

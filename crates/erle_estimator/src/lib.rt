@@ -8,8 +8,8 @@ mod streams;
 
 ghost use Rattle.std.specs.Prelude.{◌≡◌};
 ghost use Rattle.aec3_common.specs.Refusal.{accepted};
-ghost use Rattle.erle_estimator.specs.Parts.{fullbandPart};
-ghost use Rattle.erle_estimator.specs.Erle.{Update, stateOk, startedWith, startAnswer, blocksKept, afterReset, resetAnswer, updateAnswer, log2Answer, decibelAnswer, qualityAnswer};
+ghost use Rattle.erle_estimator.specs.Parts.{fullband_part};
+ghost use Rattle.erle_estimator.specs.Erle.{Update, state_ok, started_with, start_answer, blocks_kept, after_reset, reset_answer, update_answer, log2_answer, decibel_answer, quality_answer};
 ghost use Rattle.erle_estimator.specs.Runs.{NeverBadState};
 
 use aec3_common::counts::one_more;
@@ -51,9 +51,9 @@ pub struct ErleAnswer {
 }
 
 // Every part as a start leaves it, with a block count. It judges nothing.
-#[tactic(auto, unfolding(crate::specs::Erle::startedWith, subband_erle_estimator::specs::Subband::started, signal_dependent_erle_estimator::specs::SignalDependent::started, fullband_erle_estimator::specs::FullBand::started, aec3_common::specs::Lists::tab))]
+#[tactic(auto, unfolding(crate::specs::Erle::started_with, subband_erle_estimator::specs::Subband::started, signal_dependent_erle_estimator::specs::SignalDependent::started, fullband_erle_estimator::specs::FullBand::started, aec3_common::specs::Lists::tab))]
 pub fn started_with(startup: u32, blocks: u32, settings: ErleSettings) -> ErleEstimator
-    ensures { result ≡ startedWith startup blocks settings }
+    ensures { result ≡ started_with startup blocks settings }
 {
     let subband_channel = SubbandChannel::new(settings.min);
     let subband = [subband_channel; 4];
@@ -75,9 +75,9 @@ pub fn started_with(startup: u32, blocks: u32, settings: ErleSettings) -> ErleEs
 }
 
 // The blocks that stand counted after a reset.
-#[tactic(auto, unfolding(crate::specs::Erle::blocksKept))]
+#[tactic(auto, unfolding(crate::specs::Erle::blocks_kept))]
 fn blocks_kept(blocks: u32, delay_change: bool) -> u32
-    ensures { result ≡ blocksKept delay_change blocks }
+    ensures { result ≡ blocks_kept delay_change blocks }
 {
     if delay_change { 0 } else { blocks }
 }
@@ -86,7 +86,7 @@ impl ErleEstimator {
     // A start. 1, 2 and 3 are turned away, with a state that update, reset and the fullband readers turn away. After an accepted start
     // no later call is turned away under 20.
     pub fn new(startup_phase_length_blocks: u32, settings: ErleSettings) -> ErleAnswer
-        ensures value { result ≡ startAnswer startup_phase_length_blocks settings }
+        ensures value { result ≡ start_answer startup_phase_length_blocks settings }
         ensures never_bad_state { result.refused ≡ accepted → NeverBadState result.state }
     {
         let refused = settings.refusal();
@@ -101,7 +101,7 @@ impl ErleEstimator {
 
     // Whether number 20 lets the state pass.
     pub fn ok(self) -> bool
-        ensures { result ≡ stateOk self }
+        ensures { result ≡ state_ok self }
     {
         let settings = self.settings;
         let held = self.section_boundaries_blocks;
@@ -120,18 +120,18 @@ impl ErleEstimator {
     }
 
     // Every part as after a start; the count is cleared only if the delay changed. It judges nothing.
-    #[tactic(auto, unfolding(crate::specs::Erle::afterReset))]
+    #[tactic(auto, unfolding(crate::specs::Erle::after_reset))]
     pub fn restarted(self, delay_change: bool) -> ErleEstimator
-        ensures { result ≡ afterReset self delay_change }
+        ensures { result ≡ after_reset self delay_change }
     {
         let blocks = blocks_kept(self.blocks_since_reset, delay_change);
         started_with(self.startup_phase_length_blocks, blocks, self.settings)
     }
 
     // The same, and 20 is turned away.
-    #[tactic(auto, unfolding(crate::specs::Erle::resetAnswer, crate::specs::Erle::stateRefusal))]
+    #[tactic(auto, unfolding(crate::specs::Erle::reset_answer, crate::specs::Erle::state_refusal))]
     pub fn reset(self, delay_change: bool) -> ErleAnswer
-        ensures { result ≡ resetAnswer self delay_change }
+        ensures { result ≡ reset_answer self delay_change }
     {
         if self.ok() {
             ErleAnswer {
@@ -161,7 +161,7 @@ impl ErleEstimator {
         e2: &[f32],
         converged_filters: &[bool],
     ) -> ErleAnswer
-        ensures { result ≡ updateAnswer self (record { channels = num_capture_channels; ring = ring; spectra = spectra.now; counts = response_blocks.now; responses = responses.now; render = x2.now; capture = y2.now; residual = e2.now; converged = converged_filters.now }) }
+        ensures { result ≡ update_answer self (record { channels = num_capture_channels; ring = ring; spectra = spectra.now; counts = response_blocks.now; responses = responses.now; render = x2.now; capture = y2.now; residual = e2.now; converged = converged_filters.now }) }
     {
         let settings = self.settings;
         let held = self.section_boundaries_blocks;
@@ -252,7 +252,7 @@ impl ErleEstimator {
 
     // The fullband part, for its readers.
     fn fullband_part(self) -> FullBandErleEstimator
-        ensures { result ≡ fullbandPart self }
+        ensures { result ≡ fullband_part self }
     {
         let channels = self.fullband;
         FullBandErleEstimator {
@@ -262,9 +262,9 @@ impl ErleEstimator {
     }
 
     // The fullband log2 figure. 20 is turned away.
-    #[tactic(auto, unfolding(crate::specs::Erle::log2Answer, crate::specs::Erle::stateRefusal, fullband_erle_estimator::specs::FullBand::log2Answer, fullband_erle_estimator::specs::FullBand::stateRefusal))]
+    #[tactic(auto, unfolding(crate::specs::Erle::log2_answer, crate::specs::Erle::state_refusal, fullband_erle_estimator::specs::FullBand::log2_answer, fullband_erle_estimator::specs::FullBand::state_refusal))]
     pub fn fullband_erle_log2(self) -> FullBandFigure
-        ensures { result ≡ log2Answer self }
+        ensures { result ≡ log2_answer self }
     {
         if self.ok() {
             let part = self.fullband_part();
@@ -275,9 +275,9 @@ impl ErleEstimator {
     }
 
     // The same in decibels.
-    #[tactic(auto, unfolding(crate::specs::Erle::decibelAnswer, crate::specs::Erle::stateRefusal, fullband_erle_estimator::specs::FullBand::decibelAnswer, fullband_erle_estimator::specs::FullBand::stateRefusal))]
+    #[tactic(auto, unfolding(crate::specs::Erle::decibel_answer, crate::specs::Erle::state_refusal, fullband_erle_estimator::specs::FullBand::decibel_answer, fullband_erle_estimator::specs::FullBand::state_refusal))]
     pub fn fullband_erle_db(self) -> FullBandFigure
-        ensures { result ≡ decibelAnswer self }
+        ensures { result ≡ decibel_answer self }
     {
         if self.ok() {
             let part = self.fullband_part();
@@ -288,9 +288,9 @@ impl ErleEstimator {
     }
 
     // The quality of a channel's linear filter. 20 is turned away.
-    #[tactic(auto, unfolding(crate::specs::Erle::qualityAnswer, crate::specs::Erle::stateRefusal, fullband_erle_estimator::specs::FullBand::qualityAnswer, fullband_erle_estimator::specs::FullBand::stateRefusal))]
+    #[tactic(auto, unfolding(crate::specs::Erle::quality_answer, crate::specs::Erle::state_refusal, fullband_erle_estimator::specs::FullBand::quality_answer, fullband_erle_estimator::specs::FullBand::state_refusal))]
     pub fn linear_quality_estimate(self, ch: usize) -> QualityAnswer
-        ensures { result ≡ qualityAnswer self ch }
+        ensures { result ≡ quality_answer self ch }
     {
         if self.ok() {
             let part = self.fullband_part();

@@ -1,14 +1,14 @@
 // What an accepted update does to the records of one channel, and what all channels share in it.
 ghost use Rattle.std.specs.Prelude.{◌≡◌, true, cond, ◌*◌, ◌≤◌, ◌<◌, leb, ltb, length};
 ghost use Rattle.aec3_common.specs.Lists.{every};
-ghost use Rattle.aec3_common.specs.Settings.{headroomBlocks, maxFilterLengthBlocks};
+ghost use Rattle.aec3_common.specs.Settings.{headroom_blocks, max_filter_length_blocks};
 ghost use Rattle.aec3_common.specs.Spectra.{sum};
 ghost use Rattle.section_echoes.specs.Packed.{total};
-ghost use Rattle.section_echoes.specs.Steps.{RingFits, allActive};
-ghost use Rattle.correction_factors.specs.Factors.{subbandSums};
-ghost use Rattle.subband_erle_estimator.specs.Channel.{Block, channelAfter as Subband·channelAfter};
-ghost use Rattle.signal_dependent_erle_estimator.specs.Channel.{Lent, channelAfter as SignalDependent·channelAfter};
-ghost use Rattle.fullband_channel.specs.Channel.{withPoint, oneBlockLess};
+ghost use Rattle.section_echoes.specs.Steps.{RingFits, all_active};
+ghost use Rattle.correction_factors.specs.Factors.{subband_sums};
+ghost use Rattle.subband_erle_estimator.specs.Channel.{Block, channel_after as Subband·channel_after};
+ghost use Rattle.signal_dependent_erle_estimator.specs.Channel.{Lent, channel_after as SignalDependent·channel_after};
+ghost use Rattle.fullband_channel.specs.Channel.{with_point, one_block_less};
 
 use aec3_common::settings::headroom_blocks;
 use correction_factors::subband_sums;
@@ -28,7 +28,7 @@ pub fn subband_channel(
 ) -> SubbandChannel
     requires num_points_bound { c.num_points ≤ 6 }
     requires x2_len { (length x2.now ≡ 65) × (length y2.now ≡ 65) × (length e2.now ≡ 65) }
-    ensures { result ≡ Subband·channelAfter settings (record { converged = converged; render = x2.now; capture = y2.now; residual = e2.now }) c }
+    ensures { result ≡ Subband·channel_after settings (record { converged = converged; render = x2.now; capture = y2.now; residual = e2.now }) c }
 {
     if converged {
         c.update(settings, x2, y2, e2)
@@ -46,7 +46,7 @@ pub fn fullband_channel(
     e2: &[f32],
 ) -> FullBandChannel
     requires { (c.instantaneous_erle.num_points ≤ 5) × (length y2.now ≡ 65) × (length e2.now ≡ 65) }
-    ensures { result ≡ cond heard (oneBlockLess (withPoint min_erle_log2 (sum y2.now) (sum e2.now) c)) (oneBlockLess c) }
+    ensures { result ≡ cond heard (one_block_less (with_point min_erle_log2 (sum y2.now) (sum e2.now) c)) (one_block_less c) }
 {
     if heard {
         c.update(min_erle_log2, y2, e2)
@@ -69,7 +69,7 @@ pub fn signal_channel(
 ) -> SignalDependentChannel
     requires num_sections_bound { (settings.num_sections ≤ 8) × (1 < settings.num_sections → every (λ n. ltb n settings.num_sections) active.now ≡ true) }
     requires y2_len { (length y2.now ≡ 65) × (length e2.now ≡ 65) × (length average.now ≡ 65) × (length average_compensated.now ≡ 65) }
-    ensures { result ≡ cond (ltb 1 settings.num_sections) (SignalDependent·channelAfter settings active.now x2_subbands.now (record { converged = converged; capture = y2.now; residual = e2.now; average = average.now; averageCompensated = average_compensated.now }) c) c }
+    ensures { result ≡ cond (ltb 1 settings.num_sections) (SignalDependent·channel_after settings active.now x2_subbands.now (record { converged = converged; capture = y2.now; residual = e2.now; average = average.now; average_compensated = average_compensated.now }) c) c }
 {
     if settings.num_sections > 1 {
         c.update(
@@ -97,9 +97,9 @@ pub fn active_sections(
     responses: &[f32],
 ) -> [[u32; 65]; 4]
     requires ring_fits { RingFits ring spectra.now }
-    requires delay_headroom_samples_bound { (1 < settings.num_sections → headroomBlocks settings.delay_headroom_samples < maxFilterLengthBlocks) × (settings.num_sections ≤ 8) × (length response_blocks.now ≤ 4) }
-    requires response_blocks_value { (every (λ n. leb n maxFilterLengthBlocks) response_blocks.now ≡ true) × (length responses.now ≡ total response_blocks.now * 65) }
-    ensures { 1 < settings.num_sections → result ≡ allActive ring spectra.now (headroomBlocks settings.delay_headroom_samples) boundaries.now settings.num_sections response_blocks.now responses.now }
+    requires delay_headroom_samples_bound { (1 < settings.num_sections → headroom_blocks settings.delay_headroom_samples < max_filter_length_blocks) × (settings.num_sections ≤ 8) × (length response_blocks.now ≤ 4) }
+    requires response_blocks_value { (every (λ n. leb n max_filter_length_blocks) response_blocks.now ≡ true) × (length responses.now ≡ total response_blocks.now * 65) }
+    ensures { 1 < settings.num_sections → result ≡ all_active ring spectra.now (headroom_blocks settings.delay_headroom_samples) boundaries.now settings.num_sections response_blocks.now responses.now }
 {
     if settings.num_sections > 1 {
         all_active_sections(
@@ -119,7 +119,7 @@ pub fn active_sections(
 // The render power of each subband, where there are sections that learn from it.
 pub fn render_subbands(settings: SignalDependentSettings, x2: &[f32]) -> [f32; 6]
     requires { length x2.now ≡ 65 }
-    ensures { 1 < settings.num_sections → result ≡ subbandSums x2.now }
+    ensures { 1 < settings.num_sections → result ≡ subband_sums x2.now }
 {
     if settings.num_sections > 1 {
         subband_sums(x2)

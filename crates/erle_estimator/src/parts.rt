@@ -1,7 +1,7 @@
 // The settings of the three parts.
 ghost use Rattle.std.specs.Prelude.{◌≡◌};
-ghost use Rattle.erle_estimator.specs.Erle.{refusedSettings};
-ghost use Rattle.erle_estimator.specs.Parts.{subbandSettings, signalSettings, fullbandSettings};
+ghost use Rattle.erle_estimator.specs.Erle.{refused_settings};
+ghost use Rattle.erle_estimator.specs.Parts.{subband_settings, signal_settings, fullband_settings};
 
 use aec3_common::settings::ErleSettings;
 use fullband_erle_estimator::FullBandSettings;
@@ -9,7 +9,7 @@ use signal_dependent_erle_estimator::SignalDependentSettings;
 use subband_erle_estimator::SubbandSettings;
 
 pub fn subband_settings(settings: ErleSettings) -> SubbandSettings
-    ensures { result ≡ subbandSettings settings }
+    ensures { result ≡ subband_settings settings }
 {
     SubbandSettings {
         min: settings.min,
@@ -21,7 +21,7 @@ pub fn subband_settings(settings: ErleSettings) -> SubbandSettings
 }
 
 pub fn signal_settings(settings: ErleSettings) -> SignalDependentSettings
-    ensures { result ≡ signalSettings settings }
+    ensures { result ≡ signal_settings settings }
 {
     SignalDependentSettings {
         min: settings.min,
@@ -36,7 +36,7 @@ pub fn signal_settings(settings: ErleSettings) -> SignalDependentSettings
 }
 
 pub fn fullband_settings(settings: ErleSettings) -> FullBandSettings
-    ensures { result ≡ fullbandSettings settings }
+    ensures { result ≡ fullband_settings settings }
 {
     FullBandSettings {
         min: settings.min,
@@ -49,9 +49,9 @@ pub fn fullband_settings(settings: ErleSettings) -> FullBandSettings
 }
 
 // Settings without a channel, which 20 turns away.
-#[tactic(auto, unfolding(crate::specs::Erle::refusedSettings, aec3_common::specs::Binary32::zero32))]
+#[tactic(auto, unfolding(crate::specs::Erle::refused_settings, aec3_common::specs::Binary32::zero32))]
 pub fn refused_settings() -> ErleSettings
-    ensures { result ≡ refusedSettings }
+    ensures { result ≡ refused_settings }
 {
     ErleSettings {
         min: 0.0,

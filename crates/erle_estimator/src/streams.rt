@@ -1,7 +1,7 @@
 // The streams of a channel that are shown.
 ghost use Rattle.std.specs.Prelude.{◌≡◌, true};
-ghost use Rattle.aec3_common.specs.Streams.{erleOf};
-ghost use Rattle.erle_estimator.specs.Erle.{streamsShown};
+ghost use Rattle.aec3_common.specs.Streams.{erle_of};
+ghost use Rattle.erle_estimator.specs.Erle.{streams_shown};
 
 use aec3_common::settings::ErleSettings;
 use signal_dependent_erle_estimator::SignalDependentChannel;
@@ -18,21 +18,21 @@ pub struct ErleStreams {
 }
 
 // The compensated stream as `erle` answers it, of the two that a record holds.
-#[tactic(auto, unfolding(aec3_common::specs::Streams::erleOf))]
+#[tactic(auto, unfolding(aec3_common::specs::Streams::erle_of))]
 fn compensated_shown(plain: [f32; 65], held: [f32; 65], onset_detection: bool) -> [f32; 65]
-    ensures { result ≡ erleOf plain held true onset_detection }
+    ensures { result ≡ erle_of plain held true onset_detection }
 {
     if onset_detection { held } else { plain }
 }
 
 // A channel's figures, of its two records.
-#[tactic(auto, unfolding(crate::specs::Erle::streamsShown, crate::specs::Erle::erleShown, crate::specs::Erle::sectioned, aec3_common::specs::Streams::erleOf))]
+#[tactic(auto, unfolding(crate::specs::Erle::streams_shown, crate::specs::Erle::erle_shown, crate::specs::Erle::sectioned, aec3_common::specs::Streams::erle_of))]
 pub fn erle_streams(
     settings: ErleSettings,
     subband: SubbandChannel,
     signal_dependent: SignalDependentChannel,
 ) -> ErleStreams
-    ensures { result ≡ streamsShown settings subband signal_dependent }
+    ensures { result ≡ streams_shown settings subband signal_dependent }
 {
     let onsets = subband.erle_onsets;
     if settings.num_sections > 1 {

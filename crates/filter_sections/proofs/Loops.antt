@@ -11,13 +11,13 @@ use lib.Dec.{ltb, eqb}
 use lib.ListN.{length, get_or, take, drop, set, get_or-eq_default}
 use lib.Seq.{get_or-set_same, get_or-take, get_or-drop, drop-drop, length-take-le}
 use Rattle.aec3_common.proofs.Tables.{length-tab, Stored, stored-none, stored_more}
-use Rattle.filter_sections.specs.Sections.{takes, doubling, sectionSizes, runningSums, padded}
+use Rattle.filter_sections.specs.Sections.{takes, doubling, section_sizes, running_sums, padded}
 use Rattle.filter_sections.specs.Steps.{Doubled}
 use Rattle.filter_sections.proofs.Sizes.{padded-is, padded-at, takes-many, takes-below, doubling-goes-on, doubling-ends, length-doubling, evenly-at, length-sums, sums_first, sums_next}
 
 -- so many sizes, of more
-length_taken : (n blocks taken : ℕ) → taken < n → length (take taken (sectionSizes n blocks)) ≡ taken
-length_taken n blocks taken h = length-take-le taken (sectionSizes n blocks) (rw length-doubling (omega arith))
+length_taken : (n blocks taken : ℕ) → taken < n → length (take taken (section_sizes n blocks)) ≡ taken
+length_taken n blocks taken h = length-take-le taken (section_sizes n blocks) (rw length-doubling (omega arith))
 
 -- ---- sizes that double
 
@@ -26,8 +26,8 @@ pub record Doubling (n blocks places : ℕ) (sizes : List ℕ) (taken left size 
   pub some : taken < n
   pub few : left ≤ blocks
   pub small : size ≤ blocks * 2 + 2
-  pub stored : Stored places 0 0 places (λ k. get_or (sectionSizes n blocks) k 0) (padded places []) sizes taken
-  pub rest : drop taken (sectionSizes n blocks) ≡ doubling size (n - taken) left
+  pub stored : Stored places 0 0 places (λ k. get_or (section_sizes n blocks) k 0) (padded places []) sizes taken
+  pub rest : drop taken (section_sizes n blocks) ≡ doubling size (n - taken) left
 
 pub doubling-begun : (n blocks places : ℕ) → 0 < n → Doubling n blocks places (padded places []) 0 blocks 2
 doubling-begun n blocks places h =
@@ -35,7 +35,7 @@ doubling-begun n blocks places h =
       some = h;
       few = omega arith;
       small = omega arith;
-      stored = stored-none 0 0 places (λ k. get_or (sectionSizes n blocks) k 0) (padded places []) (omega arith) (length-tab places (λ k. get_or [] k 0));
+      stored = stored-none 0 0 places (λ k. get_or (section_sizes n blocks) k 0) (padded places []) (omega arith) (length-tab places (λ k. get_or [] k 0));
       rest = ap (λ (m : ℕ). doubling 2 m blocks) (omega arith);
     }
 
@@ -46,14 +46,14 @@ module _
     -- the sizes from here on, where a section takes its size
     goes_on :
         takes size (n - taken) left ≡ true
-        → drop taken (sectionSizes n blocks) ≡ size ∷ doubling (size * 2) (n - taken - 1) (left - size)
+        → drop taken (section_sizes n blocks) ≡ size ∷ doubling (size * 2) (n - taken - 1) (left - size)
     goes_on ok = d.rest ∙ doubling-goes-on size (n - taken) left ok
 
     pub doubling-more :
         takes size (n - taken) left ≡ true → n ≤ places
         → Doubling n blocks places (set sizes taken size) (taken + 1) (left - size) (size * 2)
     doubling-more ok fits =
-        let all = sectionSizes n blocks in
+        let all = section_sizes n blocks in
         let fewer : n - taken - 1 ≡ n - (taken + 1) = omega arith in
         record {
           some = omega (arith, takes-many size (n - taken) left ok);
@@ -70,7 +70,7 @@ module _
 
     pub doubling-over : takes size (n - taken) left ≡ false → Doubled n blocks places sizes taken left
     doubling-over stop =
-        let all = sectionSizes n blocks in
+        let all = section_sizes n blocks in
         let long = length_taken n blocks taken d.some in
         record {
           some = d.some;
@@ -98,9 +98,9 @@ module _ {n blocks places : ℕ} {sizes : List ℕ} {taken left : ℕ} (d : Doub
   -- the size at k, from where sharing began
   pub shared_at :
       (k : ℕ) → taken ≤ k → k < n
-      → left / (n - taken) + cond (eqb (k + 1) n) (left % (n - taken)) 0 ≡ get_or (sectionSizes n blocks) k 0
+      → left / (n - taken) + cond (eqb (k + 1) n) (left % (n - taken)) 0 ≡ get_or (section_sizes n blocks) k 0
   shared_at k from to =
-      let all = sectionSizes n blocks in
+      let all = section_sizes n blocks in
       let on : taken + (k - taken) ≡ k = omega arith in
       rw (← same-last k taken n from to)
       (sym (evenly-at (n - taken) left (k - taken) (omega arith))
@@ -109,35 +109,35 @@ module _ {n blocks places : ℕ} {sizes : List ℕ} {taken left : ℕ} (d : Doub
       ∙ ap (λ (j : ℕ). get_or all j 0) on)
 
   pub shared_long : length sizes ≡ places
-  shared_long = ap length d.begun ∙ length-tab places (λ k. get_or (take taken (sectionSizes n blocks)) k 0)
+  shared_long = ap length d.begun ∙ length-tab places (λ k. get_or (take taken (section_sizes n blocks)) k 0)
 
   -- what doubling left at a place
-  left_at : (j : ℕ) → n ≤ places → get_or sizes j 0 ≡ get_or (take taken (sectionSizes n blocks)) j 0
+  left_at : (j : ℕ) → n ≤ places → get_or sizes j 0 ≡ get_or (take taken (section_sizes n blocks)) j 0
   left_at j fits =
       ap (λ (l : List ℕ). get_or l j 0) d.begun
-      ∙ padded-at places (take taken (sectionSizes n blocks)) j (rw (length_taken n blocks taken d.some) (omega (arith, d.some)))
+      ∙ padded-at places (take taken (section_sizes n blocks)) j (rw (length_taken n blocks taken d.some) (omega (arith, d.some)))
 
   pub shared-all :
       {r : List ℕ} {k : ℕ}
-      → Stored places 0 taken n (λ k. get_or (sectionSizes n blocks) k 0) sizes r k → n ≤ k → n ≤ places
-      → r ≡ padded places (sectionSizes n blocks)
-  shared-all {r = r} s over fits = padded-is places (sectionSizes n blocks) r s.long within behind
+      → Stored places 0 taken n (λ k. get_or (section_sizes n blocks) k 0) sizes r k → n ≤ k → n ≤ places
+      → r ≡ padded places (section_sizes n blocks)
+  shared-all {r = r} s over fits = padded-is places (section_sizes n blocks) r s.long within behind
     where
-      at : (j : ℕ) (t : Bool) → ltb j taken ≡ t → j < n → get_or r j 0 ≡ get_or (sectionSizes n blocks) j 0
+      at : (j : ℕ) (t : Bool) → ltb j taken ≡ t → j < n → get_or r j 0 ≡ get_or (section_sizes n blocks) j 0
       at j true e h =
           let below : j < taken = ltb-true j taken e in
-          s.under j below ∙ left_at j fits ∙ get_or-take taken (sectionSizes n blocks) j 0 below
+          s.under j below ∙ left_at j fits ∙ get_or-take taken (section_sizes n blocks) j 0 below
       at j false e h = s.done j (omega arith) (ltb-false j taken e)
 
-      within : (j : ℕ) → j < length (sectionSizes n blocks) → get_or r j 0 ≡ get_or (sectionSizes n blocks) j 0
+      within : (j : ℕ) → j < length (section_sizes n blocks) → get_or r j 0 ≡ get_or (section_sizes n blocks) j 0
       within j h = at j (ltb j taken) refl (rw length-doubling at h)
 
-      behind : (j : ℕ) → length (sectionSizes n blocks) ≤ j → get_or r j 0 ≡ 0
+      behind : (j : ℕ) → length (section_sizes n blocks) ≤ j → get_or r j 0 ≡ 0
       behind j h =
           let far : n ≤ j = rw length-doubling at h in
           s.ahead j (omega (arith, s.to))
           ∙ left_at j fits
-          ∙ get_or-eq_default (take taken (sectionSizes n blocks)) 0 (rw (length_taken n blocks taken d.some) (omega (arith, d.some)))
+          ∙ get_or-eq_default (take taken (section_sizes n blocks)) 0 (rw (length_taken n blocks taken d.some) (omega (arith, d.some)))
 
 -- ---- running sums
 
@@ -145,8 +145,8 @@ module _ {n blocks places : ℕ} {sizes : List ℕ} {taken left : ℕ} (d : Doub
 pub record Summing (from n places : ℕ) (sizes r : List ℕ) (k : ℕ) : Type 0 where
   pub to : k ≤ n
   pub stored :
-      Stored places 0 1 (n + 1) (λ j. get_or (runningSums from (take n sizes)) j 0) (padded places (from ∷ [])) r (k + 1)
-  pub last : get_or r k 0 ≡ get_or (runningSums from (take n sizes)) k 0
+      Stored places 0 1 (n + 1) (λ j. get_or (running_sums from (take n sizes)) j 0) (padded places (from ∷ [])) r (k + 1)
+  pub last : get_or r k 0 ≡ get_or (running_sums from (take n sizes)) k 0
   pub small : get_or r k 0 < 4294967296 * (k + 1)
 
 pub summing-begun : (from n places : ℕ) (sizes : List ℕ) → from < 4294967296 → 0 < places → Summing from n places sizes (padded places (from ∷ [])) 0
@@ -154,7 +154,7 @@ summing-begun from n places sizes small some =
     let first : get_or (padded places (from ∷ [])) 0 0 ≡ from = padded-at places (from ∷ []) 0 (omega arith) in
     record {
       to = omega arith;
-      stored = stored-none 0 1 (n + 1) (λ j. get_or (runningSums from (take n sizes)) j 0) (padded places (from ∷ [])) (omega arith) (length-tab places (λ j. get_or (from ∷ []) j 0));
+      stored = stored-none 0 1 (n + 1) (λ j. get_or (running_sums from (take n sizes)) j 0) (padded places (from ∷ [])) (omega arith) (length-tab places (λ j. get_or (from ∷ []) j 0));
       last = first ∙ sym (sums_first from (take n sizes));
       small = rw first (omega arith);
     }
@@ -164,7 +164,7 @@ module _ {from n places : ℕ} {sizes r : List ℕ} {k : ℕ} (s : Summing from 
       k < n → n < places → n ≤ length sizes → get_or sizes k 0 < 4294967296
       → Summing from n places sizes (set r (k + 1) (get_or r k 0 + get_or sizes k 0)) (k + 1)
   summing-more h fits long size =
-      let next : get_or r k 0 + get_or sizes k 0 ≡ get_or (runningSums from (take n sizes)) (k + 1) 0 =
+      let next : get_or r k 0 + get_or sizes k 0 ≡ get_or (running_sums from (take n sizes)) (k + 1) 0 =
       rw (s.last, ← get_or-take n sizes k 0 h, add-one)
       (sym (sums_next from (take n sizes) k (rw (length-take-le n sizes long) h))) in
       let here : get_or (set r (k + 1) (get_or r k 0 + get_or sizes k 0)) (k + 1) 0 ≡ get_or r k 0 + get_or sizes k 0 =
@@ -176,23 +176,23 @@ module _ {from n places : ℕ} {sizes r : List ℕ} {k : ℕ} (s : Summing from 
         small = rw here (omega (arith, s.small));
       }
 
-  pub summing-over : n ≤ k → n < places → n ≤ length sizes → r ≡ padded places (runningSums from (take n sizes))
+  pub summing-over : n ≤ k → n < places → n ≤ length sizes → r ≡ padded places (running_sums from (take n sizes))
   summing-over over fits long = padded-is places sums r s.stored.long within behind
     where
       sums : List ℕ
-      sums = runningSums from (take n sizes)
+      sums = running_sums from (take n sizes)
 
-      count : length (runningSums from (take n sizes)) ≡ suc n
+      count : length (running_sums from (take n sizes)) ≡ suc n
       count = length-sums from (take n sizes) ∙ ap suc (length-take-le n sizes long)
 
-      at : (j : ℕ) → j < suc n → get_or r j 0 ≡ get_or (runningSums from (take n sizes)) j 0
+      at : (j : ℕ) → j < suc n → get_or r j 0 ≡ get_or (running_sums from (take n sizes)) j 0
       at zero h = s.stored.under 0 (omega arith) ∙ padded-at places (from ∷ []) 0 (omega arith) ∙ sym (sums_first from (take n sizes))
       at (suc j) h = s.stored.done (suc j) (omega arith) (omega arith)
 
-      within : (j : ℕ) → j < length (runningSums from (take n sizes)) → get_or r j 0 ≡ get_or (runningSums from (take n sizes)) j 0
+      within : (j : ℕ) → j < length (running_sums from (take n sizes)) → get_or r j 0 ≡ get_or (running_sums from (take n sizes)) j 0
       within j h = at j (rw count at h)
 
-      behind : (j : ℕ) → length (runningSums from (take n sizes)) ≤ j → get_or r j 0 ≡ 0
+      behind : (j : ℕ) → length (running_sums from (take n sizes)) ≤ j → get_or r j 0 ≡ 0
       behind j h =
           let far : suc n ≤ j = rw count at h in
           s.stored.ahead j (omega (arith, s.to))

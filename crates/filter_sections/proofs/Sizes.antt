@@ -10,8 +10,8 @@ use lib.Dec.{ltb, eqb}
 use lib.ListN.{length, get_or, take, get_or-eq_default}
 use lib.Seq.{ext_get_or, get_or-take, length-take-le}
 use Rattle.aec3_common.proofs.Choices.{and_left, and_right}
-use Rattle.aec3_common.proofs.Tables.{length-tab, getD-tab, tab-is}
-use Rattle.filter_sections.specs.Sections.{evenly, takes, doubling, runningSums, padded}
+use Rattle.aec3_common.proofs.Tables.{length-tab, get_or-tab, tab-is}
+use Rattle.filter_sections.specs.Sections.{evenly, takes, doubling, running_sums, padded}
 
 -- ---- tables with zeros behind a list
 
@@ -33,7 +33,7 @@ pub padded-at : (places : ℕ) (xs : List ℕ) (j : ℕ) → length xs ≤ place
 padded-at places xs j fits = go (ltb j places) refl
   where
     go : (t : Bool) → ltb j places ≡ t → get_or (padded places xs) j 0 ≡ get_or xs j 0
-    go true e = getD-tab places (λ k. get_or xs k 0) j 0 (ltb-true j places e)
+    go true e = get_or-tab places (λ k. get_or xs k 0) j 0 (ltb-true j places e)
     go false e =
         let far : places ≤ j = ltb-false j places e in
         get_or-eq_default (padded places xs) 0 {n = j} (rw length-tab far)
@@ -96,7 +96,7 @@ length-doubling size (suc n) blocks =
 pub evenly-at :
     (n blocks k : ℕ) → k < n → get_or (evenly n blocks) k 0 ≡ blocks / n + cond (eqb (suc k) n) (blocks % n) 0
 unfolding evenly
-evenly-at n blocks k h = getD-tab n _ k 0 h
+evenly-at n blocks k h = get_or-tab n _ k 0 h
 
 -- ---- no size above the blocks
 
@@ -133,20 +133,20 @@ doubling-below size (suc n) blocks k =
 
 -- ---- running sums
 
-pub length-sums : (from : ℕ) (xs : List ℕ) → length (runningSums from xs) ≡ suc (length xs)
-unfolding runningSums
+pub length-sums : (from : ℕ) (xs : List ℕ) → length (running_sums from xs) ≡ suc (length xs)
+unfolding running_sums
 length-sums from [] = refl
 length-sums from (x ∷ xs) = ap suc (length-sums (from + x) xs)
 
-pub sums_first : (from : ℕ) (xs : List ℕ) → get_or (runningSums from xs) 0 0 ≡ from
-unfolding runningSums
+pub sums_first : (from : ℕ) (xs : List ℕ) → get_or (running_sums from xs) 0 0 ≡ from
+unfolding running_sums
 sums_first from [] = refl
 sums_first from (x ∷ xs) = refl
 
 pub sums_next :
     (from : ℕ) (xs : List ℕ) (k : ℕ)
-    → k < length xs → get_or (runningSums from xs) (suc k) 0 ≡ get_or (runningSums from xs) k 0 + get_or xs k 0
-unfolding runningSums
+    → k < length xs → get_or (running_sums from xs) (suc k) 0 ≡ get_or (running_sums from xs) k 0 + get_or xs k 0
+unfolding running_sums
 sums_next from [] k h = absurd (not-suc-le-zero h)
 sums_next from (x ∷ xs) zero h = sums_first (from + x) xs
 sums_next from (x ∷ xs) (suc k) h = sums_next (from + x) xs k (le_of_suc-le-suc h)

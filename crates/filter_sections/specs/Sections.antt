@@ -2,8 +2,8 @@
 use Rattle.std.specs.Prelude.{Bool, cond, ◌&&◌, List, [], ◌∷◌, ℕ, zero, suc, ◌+◌, ◌-◌, ◌*◌, ◌/◌, ◌%◌, ltb, eqb, get_or}
 use Rattle.filter_sections.specs.declared.sections.Sections.{Sections}
 use Rattle.aec3_common.specs.Lists.{tab}
-use Rattle.aec3_common.specs.Refusal.{accepted, badSections}
-use Rattle.aec3_common.specs.Settings.{headroomBlocks, maxSections, sectionsOk}
+use Rattle.aec3_common.specs.Refusal.{accepted, bad_sections}
+use Rattle.aec3_common.specs.Settings.{headroom_blocks, max_sections, sections_ok}
 
 -- n sections share the blocks evenly: each has the quotient, and the last the remainder too
 unfoldable pub evenly : ℕ → ℕ → List ℕ
@@ -20,27 +20,27 @@ doubling size (suc n) blocks =
     cond (takes size (suc n) blocks) (size ∷ doubling (size * 2) n (blocks - size)) (evenly (suc n) blocks)
 
 -- section sizes double from 2
-abbrev pub sectionSizes : ℕ → ℕ → List ℕ
-sectionSizes n blocks = doubling 2 n blocks
+abbrev pub section_sizes : ℕ → ℕ → List ℕ
+section_sizes n blocks = doubling 2 n blocks
 
 -- from, and after it the running sums
-unfoldable pub runningSums : ℕ → List ℕ → List ℕ
-runningSums from [] = from ∷ []
-runningSums from (x ∷ xs) = from ∷ runningSums (from + x) xs
+unfoldable pub running_sums : ℕ → List ℕ → List ℕ
+running_sums from [] = from ∷ []
+running_sums from (x ∷ xs) = from ∷ running_sums (from + x) xs
 
 -- The boundaries of n sections of a filter of so many blocks: the running sums of the sizes from the headroom; with one
 -- section 0 and the filter length.
 unfoldable pub boundaries : ℕ → ℕ → ℕ → List ℕ
 boundaries n blocks headroom =
-    cond (eqb n 1) (0 ∷ blocks ∷ []) (runningSums headroom (sectionSizes n (blocks - headroom)))
+    cond (eqb n 1) (0 ∷ blocks ∷ []) (running_sums headroom (section_sizes n (blocks - headroom)))
 
 -- a list in a table of so many places, zeros behind it
 abbrev pub padded : ℕ → List ℕ → List ℕ
 padded n xs = tab n (λ k. get_or xs k 0)
 
 -- The answer: the boundaries and 0, or no boundaries and the refusal.
-unfoldable pub sectionsAnswer : ℕ → ℕ → ℕ → Sections
-sectionsAnswer n blocks samples =
-    cond (sectionsOk n blocks samples)
-    (record { boundaries = padded (suc maxSections) (boundaries n blocks (headroomBlocks samples)); refused = accepted })
-    (record { boundaries = padded (suc maxSections) []; refused = badSections })
+unfoldable pub sections_answer : ℕ → ℕ → ℕ → Sections
+sections_answer n blocks samples =
+    cond (sections_ok n blocks samples)
+    (record { boundaries = padded (suc max_sections) (boundaries n blocks (headroom_blocks samples)); refused = accepted })
+    (record { boundaries = padded (suc max_sections) []; refused = bad_sections })

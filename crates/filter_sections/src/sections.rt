@@ -1,6 +1,6 @@
 // The sections of the adaptive filter: their sizes and boundaries in blocks.
 ghost use Rattle.std.specs.Prelude.{◌≡◌, cond, List, ℕ, ◌+◌, ◌-◌, ◌/◌, ◌%◌, ◌≤◌, ◌<◌, ◌^◌, length, get_or, take};
-ghost use Rattle.filter_sections.specs.Sections.{takes, sectionSizes, runningSums, boundaries, padded, sectionsAnswer};
+ghost use Rattle.filter_sections.specs.Sections.{takes, section_sizes, running_sums, boundaries, padded, sections_answer};
 ghost use Rattle.filter_sections.specs.Steps.{Doubled as Steps-as-Doubled};
 
 use aec3_common::refusal::{ACCEPTED, BAD_SECTIONS};
@@ -28,7 +28,7 @@ pub fn section_boundaries(
     filter_length_blocks: usize,
     delay_headroom_samples: usize,
 ) -> Sections
-    ensures { result ≡ sectionsAnswer num_sections filter_length_blocks delay_headroom_samples }
+    ensures { result ≡ sections_answer num_sections filter_length_blocks delay_headroom_samples }
 {
     if sections_ok(num_sections, filter_length_blocks, delay_headroom_samples) {
         let headroom = headroom_blocks(delay_headroom_samples);
@@ -69,7 +69,7 @@ fn saturating_sub(a: usize, b: usize) -> usize
 fn running_sums(from: usize, sections: usize, sizes: [usize; 8]) -> [usize; 9]
     requires from_bound { (from < 2 ^ 32) × (sections ≤ 8) }
     requires by_index { (k : ℕ) → get_or sizes k 0 < 2 ^ 32 }
-    ensures { result ≡ padded 9 (runningSums from (take sections sizes)) }
+    ensures { result ≡ padded 9 (running_sums from (take sections sizes)) }
 {
     let mut r = [from, 0, 0, 0, 0, 0, 0, 0, 0];
     for k in 0..sections {
@@ -82,7 +82,7 @@ fn running_sums(from: usize, sections: usize, sizes: [usize; 8]) -> [usize; 9]
 fn define_filter_section_sizes(sections: usize, blocks: usize) -> [usize; 8]
     requires sections_nonzero { (0 < sections) × (sections ≤ 8) }
     requires blocks_bound { blocks < 2 ^ 32 }
-    ensures { result ≡ padded 8 (sectionSizes sections blocks) }
+    ensures { result ≡ padded 8 (section_sizes sections blocks) }
 {
     share_evenly(double_sizes(sections, blocks), sections, blocks)
 }
@@ -130,7 +130,7 @@ fn even_share(blocks: usize, sections: usize, last: bool) -> usize
 fn share_evenly(d: Doubled, sections: usize, blocks: usize) -> [usize; 8]
     requires steps_doubled { Steps-as-Doubled sections blocks 8 d.sizes d.taken d.left }
     requires sections_bound { (sections ≤ 8) × (blocks < 2 ^ 32) }
-    ensures { result ≡ padded 8 (sectionSizes sections blocks) }
+    ensures { result ≡ padded 8 (section_sizes sections blocks) }
 {
     let taken = d.taken;
     let left = d.left;

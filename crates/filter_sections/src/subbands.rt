@@ -1,6 +1,6 @@
 // The six subbands and the bands' maxima.
 ghost use Rattle.std.specs.Prelude.{◌≡◌, cond, ◌≤◌, leb};
-ghost use Rattle.filter_sections.specs.Subbands.{subbandBegin, subbandBands, bandToSubband, maxErle};
+ghost use Rattle.filter_sections.specs.Subbands.{subband_begin, subband_bands, band_to_subband, max_erle};
 
 // The bands that are summed in a subband: from begin on, below end.
 #[derive(Clone, Copy)]
@@ -10,7 +10,7 @@ pub struct SubbandBands {
 }
 
 fn subband_begin(subband: usize) -> usize
-    ensures { result ≡ subbandBegin subband }
+    ensures { result ≡ subband_begin subband }
 {
     match subband {
         0 => 1,
@@ -25,7 +25,7 @@ fn subband_begin(subband: usize) -> usize
 
 // The bands of a subband; none where there is no such subband.
 pub fn subband_bands(subband: usize) -> SubbandBands
-    ensures { result ≡ subbandBands subband }
+    ensures { result ≡ subband_bands subband }
 {
     if subband < 6 {
         SubbandBands {
@@ -46,17 +46,17 @@ fn reaches(begin: usize, band: usize) -> usize
 }
 
 // The subband that a band maps to.
-#[tactic(auto, unfolding(crate::specs::Subbands::bandToSubband))]
+#[tactic(auto, unfolding(crate::specs::Subbands::band_to_subband))]
 pub fn band_to_subband(band: usize) -> usize
-    ensures { result ≡ bandToSubband band }
+    ensures { result ≡ band_to_subband band }
 {
     reaches(8, band) + reaches(16, band) + reaches(24, band) + reaches(32, band) + reaches(48, band)
 }
 
 // The greatest ERLE of a band.
-#[tactic(auto, unfolding(crate::specs::Subbands::maxErle))]
+#[tactic(auto, unfolding(crate::specs::Subbands::max_erle))]
 pub fn max_erle(max_l: f32, max_h: f32, band: usize) -> f32
-    ensures { result ≡ maxErle max_l max_h band }
+    ensures { result ≡ max_erle max_l max_h band }
 {
     if band < 32 { max_l } else { max_h }
 }

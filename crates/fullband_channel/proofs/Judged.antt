@@ -9,7 +9,7 @@ use borrow.Author.Tests.{ltb-true}
 use lib.Dec.{ltb}
 use lib.Ieee.{Float, binary32, of_bits, add, lt, fits}
 use lib.ListN.{length}
-use Rattle.aec3_common.specs.Binary32.{zero32, greatestSum, within, valuesOk}
+use Rattle.aec3_common.specs.Binary32.{zero32, greatest_sum, within, values_ok}
 use Rattle.aec3_common.specs.Spectra.{sum}
 use Rattle.aec3_common.proofs.Choices.{each-of-three}
 use Rattle.aec3_common.proofs.Fitting.{plus-above}
@@ -17,8 +17,8 @@ use Rattle.aec3_common.proofs.Numbers.{UpTo, Whole, no-sum, sum-within, add-to-u
 use Rattle.aec3_common.proofs.Rounding.{Signed}
 use Rattle.fullband_channel.specs.declared.instantaneous.ErleInstantaneous.{ErleInstantaneous}
 use Rattle.fullband_channel.specs.declared.channel.FullBandChannel.{FullBandChannel}
-use Rattle.fullband_channel.specs.Instantaneous.{epsilon, allPoints}
-use Rattle.fullband_channel.specs.Channel.{channelOk}
+use Rattle.fullband_channel.specs.Instantaneous.{epsilon, all_points}
+use Rattle.fullband_channel.specs.Channel.{channel_ok}
 use Rattle.fullband_channel.specs.Positive.{PositiveRatio, RatiosArePositive}
 
 -- ---- numbers above zero
@@ -30,7 +30,7 @@ epsilon-above plus = plus-above plus epsilon tt tt
 -- the ratio of sums that pass
 positive-ratio :
     (capture : List Float) (residual : Float) (i : ErleInstantaneous)
-    → within greatestSum i.y2_accum ≡ true → length capture ≤ 65 → valuesOk capture ≡ true → PositiveRatio (sum capture) residual i
+    → within greatest_sum i.y2_accum ≡ true → length capture ≤ 65 → values_ok capture ≡ true → PositiveRatio (sum capture) residual i
 positive-ratio capture residual i held few ok some =
     let n = length capture in
     let added : UpTo ((0 + n) * 2 ^ 100) (sum capture) = sum-up-to 0 capture no-sum ok (omega arith) in
@@ -40,19 +40,19 @@ positive-ratio capture residual i held few ok some =
 
 -- ---- a record
 
-module _ (c : FullBandChannel) (ok : channelOk c ≡ true) where
+module _ (c : FullBandChannel) (ok : channel_ok c ≡ true) where
   parts :
       let i = c.instantaneous_erle in
-      (ltb i.num_points allPoints ≡ true) × (within greatestSum i.y2_accum ≡ true) × (within greatestSum i.e2_accum ≡ true)
-  unfolding channelOk
+      (ltb i.num_points all_points ≡ true) × (within greatest_sum i.y2_accum ≡ true) × (within greatest_sum i.e2_accum ≡ true)
+  unfolding channel_ok
   parts =
       let i = c.instantaneous_erle in
-      each-of-three (ltb i.num_points allPoints) (within greatestSum i.y2_accum) (within greatestSum i.e2_accum) ok
+      each-of-three (ltb i.num_points all_points) (within greatest_sum i.y2_accum) (within greatest_sum i.e2_accum) ok
 
   pub few-points : c.instantaneous_erle.num_points ≤ 5
   few-points = omega (arith, ltb-true c.instantaneous_erle.num_points 6 parts.0)
 
-  capture-within : within greatestSum c.instantaneous_erle.y2_accum ≡ true
+  capture-within : within greatest_sum c.instantaneous_erle.y2_accum ≡ true
   capture-within = parts.1
 
 -- ---- the claim

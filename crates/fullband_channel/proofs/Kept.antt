@@ -9,7 +9,7 @@ use native.Mathlib.Omega.{arith}
 use borrow.Author.Tests.{eqb-false, lt-ltb}
 use lib.Dec.{T, eqb, lit≤}
 use lib.Ieee.{Float, binary32, add, lt, le}
-use Rattle.aec3_common.specs.Binary32.{sumThreshold, greatestSum, within, moved}
+use Rattle.aec3_common.specs.Binary32.{sum_threshold, greatest_sum, within, moved}
 use Rattle.aec3_common.specs.Counts.{fallen, is_zero}
 use Rattle.aec3_common.specs.Spectra.{sum}
 use Rattle.aec3_common.proofs.Choices.{cond_has}
@@ -19,8 +19,8 @@ use Rattle.fullband_channel.specs.declared.instantaneous.OptionalNumber.{Optiona
 use Rattle.fullband_channel.specs.declared.instantaneous.OptionalNumber.TheVariants.{Absent, Number}
 use Rattle.fullband_channel.specs.declared.instantaneous.ErleInstantaneous.{ErleInstantaneous}
 use Rattle.fullband_channel.specs.declared.channel.FullBandChannel.{FullBandChannel}
-use Rattle.fullband_channel.specs.Instantaneous.{newLog2, holding, accumulated, learnt, cleared, accumulatorsReset, fresh}
-use Rattle.fullband_channel.specs.Channel.{figureShare, channelOk, freshChannel, withNew, withPoint, oneBlockLess, channelAfter}
+use Rattle.fullband_channel.specs.Instantaneous.{new_log2, holding, accumulated, learnt, cleared, accumulators_reset, fresh}
+use Rattle.fullband_channel.specs.Channel.{figure_share, channel_ok, fresh_channel, with_new, with_point, one_block_less, channel_after}
 
 -- ---- sums
 
@@ -34,7 +34,7 @@ point-more n {x} {y} few u v =
     rw same (add-up-to (n * 65 * 2 ^ 100) (65 * 2 ^ 100) u (plain v) (subst Whole same (whole_multiple (suc n * 65) (omega arith))))
 
 -- the sums of up to five points pass
-points-within : (n : ℕ) {x : Float} → n ≤ 5 → SumOf n x → within greatestSum x ≡ true
+points-within : (n : ℕ) {x : Float} → n ≤ 5 → SumOf n x → within greatest_sum x ≡ true
 points-within n few u =
     let most : n * 65 ≤ 325 = omega arith in
     up-to-within u (le_trans (mul-le-mul_right (2 ^ 100) most) (lit≤ tt))
@@ -74,29 +74,29 @@ pub record ChannelKept (min : Float) (c : FullBandChannel) : Type 0 where
   pub figure : le min c.erle_time_domain_log2 ≡ true
 
 module _ (min : Float) (some : T (number min)) where
-  pub fresh_kept : ChannelKept min (freshChannel min)
-  unfolding freshChannel fresh
+  pub fresh_kept : ChannelKept min (fresh_channel min)
+  unfolding fresh_channel fresh
   fresh_kept = record { sums = cleared-kept _ _; figure = not-below-itself min some }
 
-  new-kept : (new : OptionalNumber) (c : FullBandChannel) → ChannelKept min c → ChannelKept min (withNew min new c)
+  new-kept : (new : OptionalNumber) (c : FullBandChannel) → ChannelKept min c → ChannelKept min (with_new min new c)
   new-kept Absent c kept = kept
   new-kept (Number value) c kept =
       record {
         sums = learnt-kept value c.instantaneous_erle kept.sums;
-        figure = larger-not-below min (moved c.erle_time_domain_log2 value figureShare) some;
+        figure = larger-not-below min (moved c.erle_time_domain_log2 value figure_share) some;
       }
 
   point-kept :
       (capture residual : Float) (c : FullBandChannel) → SumOf 1 capture → SumOf 1 residual → ChannelKept min c
-      → ChannelKept min (withPoint min capture residual c)
-  unfolding withPoint
+      → ChannelKept min (with_point min capture residual c)
+  unfolding with_point
   point-kept capture residual c p q kept =
       let i = c.instantaneous_erle in
-      new-kept (newLog2 capture residual i) _
+      new-kept (new_log2 capture residual i) _
       (record { sums = accumulated-kept capture residual i p q kept.sums; figure = kept.figure })
 
-  less-kept : (c : FullBandChannel) → ChannelKept min c → ChannelKept min (oneBlockLess c)
-  unfolding oneBlockLess accumulatorsReset
+  less-kept : (c : FullBandChannel) → ChannelKept min c → ChannelKept min (one_block_less c)
+  unfolding one_block_less accumulators_reset
   less-kept c kept =
       record {
         sums = cond_has SumsKept (is_zero (fallen c.hold_counter_time_domain)) (λ e. cleared-kept _ _) (λ e. kept.sums);
@@ -106,18 +106,18 @@ module _ (min : Float) (some : T (number min)) where
   pub after_kept :
       (converged : Bool) (render capture residual : List Float) (c : FullBandChannel)
       → SumOf 1 (sum capture) → SumOf 1 (sum residual) → ChannelKept min c
-      → ChannelKept min (channelAfter min converged render capture residual c)
-  unfolding channelAfter
+      → ChannelKept min (channel_after min converged render capture residual c)
+  unfolding channel_after
   after_kept converged render capture residual c p q kept =
       less-kept _
-      (cond_has (ChannelKept min) (converged && lt sumThreshold (sum render))
+      (cond_has (ChannelKept min) (converged && lt sum_threshold (sum render))
       (λ e. point-kept (sum capture) (sum residual) c p q kept)
       (λ e. kept))
 
 -- ---- never refused under 20
 
-pub channel-ok : {min : Float} (c : FullBandChannel) → ChannelKept min c → channelOk c ≡ true
-unfolding channelOk
+pub channel-ok : {min : Float} (c : FullBandChannel) → ChannelKept min c → channel_ok c ≡ true
+unfolding channel_ok
 channel-ok c kept =
     let i = c.instantaneous_erle in
     let n = i.num_points in

@@ -11,87 +11,87 @@ use Rattle.fullband_channel.specs.declared.instantaneous.OptionalNumber.{Optiona
 use Rattle.fullband_channel.specs.declared.instantaneous.OptionalNumber.TheVariants.{Absent, Number}
 use Rattle.fullband_channel.specs.declared.instantaneous.ErleInstantaneous.{ErleInstantaneous}
 use Rattle.fullband_channel.specs.declared.channel.FullBandChannel.{FullBandChannel}
-use Rattle.fullband_channel.specs.Instantaneous.{allPoints, log2Above, captureWith, residualWith, isLastPoint, newLog2, holding, accumulated, learnt, accumulatorsReset, clampedQuality, qualityOf, isPresent, optionalCase}
-use Rattle.fullband_channel.specs.Channel.{figureShare, blocksToHold, withPoint, oneBlockLess}
+use Rattle.fullband_channel.specs.Instantaneous.{all_points, log2_above, capture_with, residual_with, is_last_point, new_log2, holding, accumulated, learnt, accumulators_reset, clamped_quality, quality_of, is_present, optional_case}
+use Rattle.fullband_channel.specs.Channel.{figure_share, blocks_to_hold, with_point, one_block_less}
 
 -- ---- a point
 
 module _ (y e : Float) (i : ErleInstantaneous) where
   -- as the code counts
-  counted : eqb (i.num_points + 1) allPoints ≡ isLastPoint y e i
-  counted = ap (λ (n : ℕ). eqb n allPoints) (add-one i.num_points)
+  counted : eqb (i.num_points + 1) all_points ≡ is_last_point y e i
+  counted = ap (λ (n : ℕ). eqb n all_points) (add-one i.num_points)
 
   pub new-there :
-      eqb (i.num_points + 1) allPoints && lt zero32 (residualWith y e i) ≡ true
-      → Number (log2Above (div binary32 (captureWith y e i) (residualWith y e i))) ≡ newLog2 y e i
-  unfolding newLog2
+      eqb (i.num_points + 1) all_points && lt zero32 (residual_with y e i) ≡ true
+      → Number (log2_above (div binary32 (capture_with y e i) (residual_with y e i))) ≡ new_log2 y e i
+  unfolding new_log2
   new-there t =
-      let passed = ap (λ (b : Bool). b && lt zero32 (residualWith y e i)) (sym counted) ∙ t in
-      ap (λ (b : Bool). optionalCase b (log2Above (div binary32 (captureWith y e i) (residualWith y e i)))) (sym passed)
+      let passed = ap (λ (b : Bool). b && lt zero32 (residual_with y e i)) (sym counted) ∙ t in
+      ap (λ (b : Bool). optional_case b (log2_above (div binary32 (capture_with y e i) (residual_with y e i)))) (sym passed)
 
-  pub new_none : eqb (i.num_points + 1) allPoints && lt zero32 (residualWith y e i) ≡ false → Absent ≡ newLog2 y e i
-  unfolding newLog2
+  pub new_none : eqb (i.num_points + 1) all_points && lt zero32 (residual_with y e i) ≡ false → Absent ≡ new_log2 y e i
+  unfolding new_log2
   new_none t =
-      let failed = ap (λ (b : Bool). b && lt zero32 (residualWith y e i)) (sym counted) ∙ t in
-      ap (λ (b : Bool). optionalCase b (log2Above (div binary32 (captureWith y e i) (residualWith y e i)))) (sym failed)
+      let failed = ap (λ (b : Bool). b && lt zero32 (residual_with y e i)) (sym counted) ∙ t in
+      ap (λ (b : Bool). optional_case b (log2_above (div binary32 (capture_with y e i) (residual_with y e i)))) (sym failed)
 
-  pub last-point : eqb (i.num_points + 1) allPoints ≡ true → holding zero32 zero32 0 i ≡ accumulated y e i
+  pub last-point : eqb (i.num_points + 1) all_points ≡ true → holding zero32 zero32 0 i ≡ accumulated y e i
   unfolding accumulated
   last-point t = rw (sym counted ∙ t)
 
   pub more-points :
-      eqb (i.num_points + 1) allPoints ≡ false
-      → holding (captureWith y e i) (residualWith y e i) (i.num_points + 1) i ≡ accumulated y e i
+      eqb (i.num_points + 1) all_points ≡ false
+      → holding (capture_with y e i) (residual_with y e i) (i.num_points + 1) i ≡ accumulated y e i
   unfolding accumulated
   more-points t = rw (sym counted ∙ t, add-one)
 
 -- ---- a quality
 
 pub quality-there :
-    (toZero toOne : Bool) (i : ErleInstantaneous) {x : Float} → i.erle_log2 ≡ Number x
-    → Number (clampedQuality toZero toOne i.inst_quality_estimate) ≡ qualityOf toZero toOne i
-unfolding qualityOf
-quality-there toZero toOne i e =
-    ap (λ (v : OptionalNumber). optionalCase (isPresent v) (clampedQuality toZero toOne i.inst_quality_estimate)) (sym e)
+    (to_zero to_one : Bool) (i : ErleInstantaneous) {x : Float} → i.erle_log2 ≡ Number x
+    → Number (clamped_quality to_zero to_one i.inst_quality_estimate) ≡ quality_of to_zero to_one i
+unfolding quality_of
+quality-there to_zero to_one i e =
+    ap (λ (v : OptionalNumber). optional_case (is_present v) (clamped_quality to_zero to_one i.inst_quality_estimate)) (sym e)
 
-pub quality-none : (toZero toOne : Bool) (i : ErleInstantaneous) → i.erle_log2 ≡ Absent → Absent ≡ qualityOf toZero toOne i
-unfolding qualityOf
-quality-none toZero toOne i e =
-    ap (λ (v : OptionalNumber). optionalCase (isPresent v) (clampedQuality toZero toOne i.inst_quality_estimate)) (sym e)
+pub quality-none : (to_zero to_one : Bool) (i : ErleInstantaneous) → i.erle_log2 ≡ Absent → Absent ≡ quality_of to_zero to_one i
+unfolding quality_of
+quality-none to_zero to_one i e =
+    ap (λ (v : OptionalNumber). optional_case (is_present v) (clamped_quality to_zero to_one i.inst_quality_estimate)) (sym e)
 
 -- ---- a channel
 
-module _ (minLog2 y e : Float) (c : FullBandChannel) where
+module _ (min_log2 y e : Float) (c : FullBandChannel) where
   pub with_number :
-      {value : Float} → newLog2 y e c.instantaneous_erle ≡ Number value
+      {value : Float} → new_log2 y e c.instantaneous_erle ≡ Number value
       → record {
         instantaneous_erle = learnt value (accumulated y e c.instantaneous_erle);
-        erle_time_domain_log2 = larger minLog2 (moved c.erle_time_domain_log2 value figureShare);
-        hold_counter_time_domain = blocksToHold;
+        erle_time_domain_log2 = larger min_log2 (moved c.erle_time_domain_log2 value figure_share);
+        hold_counter_time_domain = blocks_to_hold;
       }
-      ≡ withPoint minLog2 y e c
-  unfolding withPoint
+      ≡ with_point min_log2 y e c
+  unfolding with_point
   with_number new = rw new
 
   pub with_none :
-      newLog2 y e c.instantaneous_erle ≡ Absent
+      new_log2 y e c.instantaneous_erle ≡ Absent
       → record {
         instantaneous_erle = accumulated y e c.instantaneous_erle;
         erle_time_domain_log2 = c.erle_time_domain_log2;
         hold_counter_time_domain = c.hold_counter_time_domain;
       }
-      ≡ withPoint minLog2 y e c
-  unfolding withPoint
+      ≡ with_point min_log2 y e c
+  unfolding with_point
   with_none new = rw new
 
 -- a block less: whether the hold is then exactly 0
 module _ (c : FullBandChannel) where
   pub less : (t : Bool) → is_zero (fallen c.hold_counter_time_domain) ≡ t
       → record {
-        instantaneous_erle = cond t (accumulatorsReset c.instantaneous_erle) c.instantaneous_erle;
+        instantaneous_erle = cond t (accumulators_reset c.instantaneous_erle) c.instantaneous_erle;
         erle_time_domain_log2 = c.erle_time_domain_log2;
         hold_counter_time_domain = fallen c.hold_counter_time_domain;
       }
-      ≡ oneBlockLess c
-  unfolding oneBlockLess
+      ≡ one_block_less c
+  unfolding one_block_less
   less t z = rw z

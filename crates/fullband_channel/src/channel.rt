@@ -1,7 +1,7 @@
 // One channel's record: its instantaneous ERLE, its figure and its hold.
 ghost use Rattle.std.specs.Prelude.{◌≡◌, ◌≤◌, length};
 ghost use Rattle.aec3_common.specs.Spectra.{sum};
-ghost use Rattle.fullband_channel.specs.Channel.{channelOk, freshChannel, withPoint, oneBlockLess};
+ghost use Rattle.fullband_channel.specs.Channel.{channel_ok, fresh_channel, with_point, one_block_less};
 
 use crate::instantaneous::{ErleInstantaneous, OptionalNumber, POINTS_TO_ACCUMULATE};
 use aec3_common::binary32::{GREATEST_SUM, is_within};
@@ -42,9 +42,9 @@ fn power_sums(y2: &[f32], e2: &[f32]) -> PowerSums
 }
 
 impl FullBandChannel {
-    #[tactic(auto, unfolding(crate::specs::Channel::freshChannel))]
+    #[tactic(auto, unfolding(crate::specs::Channel::fresh_channel))]
     pub fn new(min_erle_log2: f32) -> FullBandChannel
-        ensures { result ≡ freshChannel min_erle_log2 }
+        ensures { result ≡ fresh_channel min_erle_log2 }
     {
         FullBandChannel {
             instantaneous_erle: ErleInstantaneous::new(),
@@ -54,9 +54,9 @@ impl FullBandChannel {
     }
 
     // Whether number 20 lets the record pass.
-    #[tactic(auto, unfolding(crate::specs::Channel::channelOk))]
+    #[tactic(auto, unfolding(crate::specs::Channel::channel_ok))]
     pub fn ok(self) -> bool
-        ensures { result ≡ channelOk self }
+        ensures { result ≡ channel_ok self }
     {
         let inst = self.instantaneous_erle;
         (inst.num_points < POINTS_TO_ACCUMULATE)
@@ -67,7 +67,7 @@ impl FullBandChannel {
     // The channel with one more point: the sums of a block's capture and residual power.
     fn with_point(self, min_erle_log2: f32, y2_sum: f32, e2_sum: f32) -> FullBandChannel
         requires { self.instantaneous_erle.num_points ≤ 5 }
-        ensures { result ≡ withPoint min_erle_log2 y2_sum e2_sum self }
+        ensures { result ≡ with_point min_erle_log2 y2_sum e2_sum self }
     {
         let inst = self.instantaneous_erle;
         let new = inst.new_erle_log2(y2_sum, e2_sum);
@@ -92,7 +92,7 @@ impl FullBandChannel {
     // One update of a channel that accumulates.
     pub fn update(self, min_erle_log2: f32, y2: &[f32], e2: &[f32]) -> FullBandChannel
         requires { (self.instantaneous_erle.num_points ≤ 5) × (length y2.now ≡ 65) × (length e2.now ≡ 65) }
-        ensures { result ≡ oneBlockLess (withPoint min_erle_log2 (sum y2.now) (sum e2.now) self) }
+        ensures { result ≡ one_block_less (with_point min_erle_log2 (sum y2.now) (sum e2.now) self) }
     {
         let sums = power_sums(y2, e2);
         let channel = self.with_point(min_erle_log2, sums.y2, sums.e2);
@@ -101,7 +101,7 @@ impl FullBandChannel {
 
     // One block less to hold. In an update of a channel that does not accumulate this is all.
     pub fn decay(mut self) -> FullBandChannel
-        ensures { result ≡ oneBlockLess self }
+        ensures { result ≡ one_block_less self }
     {
         let hold = fallen(self.hold_counter_time_domain);
         self.hold_counter_time_domain = hold;

@@ -1,6 +1,6 @@
 // One channel's instantaneous ERLE: the log2 of the ratio of six points, its extremes, and the quality of the linear filter.
 ghost use Rattle.std.specs.Prelude.{◌≡◌, ◌≤◌};
-ghost use Rattle.fullband_channel.specs.Instantaneous.{newLog2, accumulated, greatestWith, leastWith, newQuality, qualityWith, accumulatorsReset, loweredQuality, clampedQuality, qualityOf, holding as Instantaneous·holding, learnt as Instantaneous·learnt, fresh};
+ghost use Rattle.fullband_channel.specs.Instantaneous.{new_log2, accumulated, greatest_with, least_with, new_quality, quality_with, accumulators_reset, lowered_quality, clamped_quality, quality_of, holding as Instantaneous·holding, learnt as Instantaneous·learnt, fresh};
 
 use aec3_common::log2::approx_log2;
 use aec3_common::{larger, moved, smaller};
@@ -28,7 +28,7 @@ pub struct ErleInstantaneous {
 }
 
 fn greatest_with(value: f32, greatest: f32) -> f32
-    ensures { result ≡ greatestWith value greatest }
+    ensures { result ≡ greatest_with value greatest }
 {
     if value > greatest {
         value
@@ -38,15 +38,15 @@ fn greatest_with(value: f32, greatest: f32) -> f32
 }
 
 fn least_with(value: f32, least: f32) -> f32
-    ensures { result ≡ leastWith value least }
+    ensures { result ≡ least_with value least }
 {
     if value < least { value } else { least + 0.0004 }
 }
 
 // How far a value stands between the extremes, or outside them.
-#[tactic(auto, unfolding(crate::specs::Instantaneous::newQuality))]
+#[tactic(auto, unfolding(crate::specs::Instantaneous::new_quality))]
 fn new_quality(least: f32, greatest: f32, value: f32) -> f32
-    ensures { result ≡ newQuality least greatest value }
+    ensures { result ≡ new_quality least greatest value }
 {
     if greatest > least {
         (value - least) / (greatest - least)
@@ -56,7 +56,7 @@ fn new_quality(least: f32, greatest: f32, value: f32) -> f32
 }
 
 fn quality_with(new: f32, quality: f32) -> f32
-    ensures { result ≡ qualityWith new quality }
+    ensures { result ≡ quality_with new quality }
 {
     if new > quality {
         new
@@ -67,7 +67,7 @@ fn quality_with(new: f32, quality: f32) -> f32
 
 // A quality, not above 1 if the switch is on.
 fn lowered(to_one: bool, quality: f32) -> f32
-    ensures { result ≡ loweredQuality to_one quality }
+    ensures { result ≡ lowered_quality to_one quality }
 {
     if to_one {
         smaller(quality, 1.0)
@@ -76,9 +76,9 @@ fn lowered(to_one: bool, quality: f32) -> f32
     }
 }
 
-#[tactic(auto, unfolding(crate::specs::Instantaneous::clampedQuality))]
+#[tactic(auto, unfolding(crate::specs::Instantaneous::clamped_quality))]
 fn clamped_quality(to_zero: bool, to_one: bool, quality: f32) -> f32
-    ensures { result ≡ clampedQuality to_zero to_one quality }
+    ensures { result ≡ clamped_quality to_zero to_one quality }
 {
     if to_zero {
         lowered(to_one, larger(quality, 0.0))
@@ -103,9 +103,9 @@ impl ErleInstantaneous {
     }
 
     // The extremes stay.
-    #[tactic(auto, unfolding(crate::specs::Instantaneous::accumulatorsReset, crate::specs::Instantaneous::cleared))]
+    #[tactic(auto, unfolding(crate::specs::Instantaneous::accumulators_reset, crate::specs::Instantaneous::cleared))]
     pub fn reset_accumulators(self) -> ErleInstantaneous
-        ensures { result ≡ accumulatorsReset self }
+        ensures { result ≡ accumulators_reset self }
     {
         ErleInstantaneous {
             erle_log2: OptionalNumber::Absent,
@@ -121,7 +121,7 @@ impl ErleInstantaneous {
     // The log2 value that a point brings: none before the sixth, and none without residual.
     pub(crate) fn new_erle_log2(self, y2_sum: f32, e2_sum: f32) -> OptionalNumber
         requires { self.num_points ≤ 5 }
-        ensures { result ≡ newLog2 y2_sum e2_sum self }
+        ensures { result ≡ new_log2 y2_sum e2_sum self }
     {
         let y2 = self.y2_accum + y2_sum;
         let e2 = self.e2_accum + e2_sum;
@@ -180,7 +180,7 @@ impl ErleInstantaneous {
 
     // The quality after clamping, absent while the log2 value is.
     pub fn quality_estimate(self, to_zero: bool, to_one: bool) -> OptionalNumber
-        ensures { result ≡ qualityOf to_zero to_one self }
+        ensures { result ≡ quality_of to_zero to_one self }
     {
         let erle_log2 = self.erle_log2;
         match erle_log2 {

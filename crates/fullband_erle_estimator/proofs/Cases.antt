@@ -4,7 +4,7 @@ use mathlib.Core.Bool.{Bool, true, false}
 use lib.Ieee.{Float}
 use Rattle.aec3_common.proofs.Cases.{cases-read-back as each-read-back}
 use Rattle.fullband_erle_estimator.specs.declared.FullBandFigure.TheVariants.{Value, Refused}
-use Rattle.fullband_erle_estimator.specs.FullBand.{figureNumber, figureValues}
+use Rattle.fullband_erle_estimator.specs.FullBand.{figure_number, figure_values}
 use Rattle.fullband_erle_estimator.specs.Cases.{OptionalReadBack, CasesReadBack}
 
 optional-read-back : (present : Bool) (x : Float) → OptionalReadBack present x
@@ -14,6 +14,6 @@ optional-read-back false x = record { refusal = refl; there = refl; values = ref
 pub cases-read-back : CasesReadBack
 cases-read-back =
     record {
-      figure = each-read-back Value Refused figureNumber figureValues (λ figure. figure) (λ x. refl) (λ n. refl) (λ x. refl) (λ n. refl);
+      figure = each-read-back Value Refused figure_number figure_values (λ figure. figure) (λ x. refl) (λ n. refl) (λ x. refl) (λ n. refl);
       optional = optional-read-back;
     }

@@ -16,10 +16,10 @@ use Rattle.aec3_common.proofs.Calls.{limits-passed, some-channels, few-channels}
 use Rattle.aec3_common.proofs.Choices.{and_left, and_right, each-of-four}
 use Rattle.aec3_common.proofs.Every.{every-at}
 use Rattle.aec3_common.proofs.Rounding.{holds, Signed, infinite, finite}
-use Rattle.fullband_channel.specs.Channel.{channelOk}
+use Rattle.fullband_channel.specs.Channel.{channel_ok}
 use Rattle.fullband_channel.proofs.Judged.{epsilon-above}
 use Rattle.fullband_erle_estimator.specs.declared.FullBandErleEstimator.{FullBandErleEstimator}
-use Rattle.fullband_erle_estimator.specs.FullBand.{settingsRefusal, stateOk, noChannel, channelAt}
+use Rattle.fullband_erle_estimator.specs.FullBand.{settings_refusal, state_ok, no_channel, channel_at}
 use Rattle.fullband_erle_estimator.specs.Positive.{MinimumIsPositive}
 
 -- ---- numbers above zero
@@ -37,35 +37,35 @@ above-signed (fin false m e) p = finite m e
 
 -- the claim
 pub minimum-is-positive : MinimumIsPositive
-unfolding MinimumIsPositive settingsRefusal of_bits
+unfolding MinimumIsPositive settings_refusal of_bits
 minimum-is-positive s ok =
     let limits = limits-passed s.min s.max_l s.max_h s.num_capture_channels ok in
     epsilon-above (above-signed s.min (above_of_le one32 s.min tt (holds (first-of-five (le one32 s.min) _ _ _ _ limits))))
 
 -- ---- a state
 
-module _ (s : FullBandErleEstimator) (ok : stateOk s ≡ true) where
-  pub settings-passed : settingsRefusal s.settings ≡ accepted
-  unfolding stateOk
-  settings-passed = eqb-true _ _ (and_left (eqb (settingsRefusal s.settings) accepted) _ ok)
+module _ (s : FullBandErleEstimator) (ok : state_ok s ≡ true) where
+  pub settings-passed : settings_refusal s.settings ≡ accepted
+  unfolding state_ok
+  settings-passed = eqb-true _ _ (and_left (eqb (settings_refusal s.settings) accepted) _ ok)
 
   pub state-some : 1 ≤ s.settings.num_capture_channels
-  unfolding settingsRefusal
+  unfolding settings_refusal
   state-some = let g = s.settings in some-channels g.min g.max_l g.max_h g.num_capture_channels settings-passed
 
   pub state-few : s.settings.num_capture_channels ≤ 4
-  unfolding settingsRefusal
+  unfolding settings_refusal
   state-few = let g = s.settings in few-channels g.min g.max_l g.max_h g.num_capture_channels settings-passed
 
   -- each of its channels passes
   pub channel-passed :
-      (ch : ℕ) → length s.channels ≡ 4 → ch < s.settings.num_capture_channels → channelOk (channelAt s ch) ≡ true
-  unfolding stateOk
+      (ch : ℕ) → length s.channels ≡ 4 → ch < s.settings.num_capture_channels → channel_ok (channel_at s ch) ≡ true
+  unfolding state_ok
   channel-passed ch long h =
       let n = s.settings.num_capture_channels in
       let records = take n s.channels in
-      let all = and_right (eqb (settingsRefusal s.settings) accepted) (every channelOk records) ok in
+      let all = and_right (eqb (settings_refusal s.settings) accepted) (every channel_ok records) ok in
       let few = state-few in
       let size = length-take-le n s.channels (omega arith) in
-      let one = every-at channelOk records noChannel ch all (omega arith) in
-      rw (get_or-take n s.channels ch noChannel h) at one
+      let one = every-at channel_ok records no_channel ch all (omega arith) in
+      rw (get_or-take n s.channels ch no_channel h) at one

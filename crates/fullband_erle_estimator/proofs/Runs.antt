@@ -8,10 +8,10 @@ use borrow.Author.Tests.{eqb-true}
 use lib.Dec.{T, eqb}
 use lib.Ieee.{Float, binary32, add, le}
 use lib.ListN.{length, get_or}
-use Rattle.aec3_common.specs.Binary32.{smaller, greatestValue, within, valuesOk}
+use Rattle.aec3_common.specs.Binary32.{smaller, greatest_value, within, values_ok}
 use Rattle.aec3_common.specs.Calls.{Call, update, reset}
 use Rattle.aec3_common.specs.Lists.{every}
-use Rattle.aec3_common.specs.Refusal.{accepted, badState}
+use Rattle.aec3_common.specs.Refusal.{accepted, bad_state}
 use Rattle.aec3_common.specs.Spectra.{part, sum}
 use Rattle.aec3_common.proofs.Bands.{part_length, part-every}
 use Rattle.aec3_common.proofs.Calls.{UpdateOk, few-channels, update-ok, update-not-20, run-keeps}
@@ -19,38 +19,38 @@ use Rattle.aec3_common.proofs.Choices.{and_left, and_right, cond_has}
 use Rattle.aec3_common.proofs.Every.{every_first}
 use Rattle.aec3_common.proofs.Floats.{not-below-itself, smaller-not-below}
 use Rattle.aec3_common.proofs.Numbers.{number, UpTo, no-sum, sum-up-to, log2-number}
-use Rattle.aec3_common.proofs.Tables.{getD-tab, getD-tab-first}
+use Rattle.aec3_common.proofs.Tables.{get_or-tab, get_or-tab-first}
 use Rattle.fullband_channel.specs.declared.channel.FullBandChannel.{FullBandChannel}
 use Rattle.fullband_channel.specs.Instantaneous.{epsilon}
-use Rattle.fullband_channel.specs.Channel.{channelOk, freshChannel, channelAfter}
+use Rattle.fullband_channel.specs.Channel.{channel_ok, fresh_channel, channel_after}
 use Rattle.fullband_channel.proofs.Kept.{SumOf, ChannelKept, fresh_kept, after_kept, channel-ok}
 use Rattle.fullband_erle_estimator.specs.declared.settings.FullBandSettings.{FullBandSettings}
 use Rattle.fullband_erle_estimator.specs.declared.FullBandErleEstimator.{FullBandErleEstimator}
 use Rattle.fullband_erle_estimator.specs.declared.FullBandAnswer.{FullBandAnswer}
-use Rattle.fullband_erle_estimator.specs.FullBand.{settingsRefusal, stateOk, stateRefusal, updateRefusal, minLog2, started, startAnswer, resetAnswer, noChannel, channelAt, updated, updateAnswer, leastFrom, leastOr, fullbandLog2}
+use Rattle.fullband_erle_estimator.specs.FullBand.{settings_refusal, state_ok, state_refusal, update_refusal, min_log2, started, start_answer, reset_answer, no_channel, channel_at, updated, update_answer, least_from, least_or, fullband_log2}
 use Rattle.fullband_erle_estimator.specs.Runs.{answer, run, NeverBadState, FiguresNotBelowMinimum}
 
 -- the sum of a channel's values is one point
-one-point : (n : ℕ) (xs : List Float) (ch : ℕ) → length xs ≡ n * 65 → valuesOk xs ≡ true → ch < n → SumOf 1 (sum (part xs ch))
+one-point : (n : ℕ) (xs : List Float) (ch : ℕ) → length xs ≡ n * 65 → values_ok xs ≡ true → ch < n → SumOf 1 (sum (part xs ch))
 one-point n xs ch long ok h =
     let size : length (part xs ch) ≡ 65 = part_length xs ch (omega arith) in
     subst (λ (m : ℕ). UpTo ((0 + m) * 2 ^ 100) (sum (part xs ch))) size
-    (sum-up-to 0 (part xs ch) no-sum (part-every (within greatestValue) xs ch ok) (omega arith))
+    (sum-up-to 0 (part xs ch) no-sum (part-every (within greatest_value) xs ch ok) (omega arith))
 
 -- ---- a state
 
 -- What a state keeps: its settings, and what each of its channels keeps.
 pub record Kept (g : FullBandSettings) (s : FullBandErleEstimator) : Type 0 where
   settings : s.settings ≡ g
-  channels : (ch : ℕ) → ch < g.num_capture_channels → ChannelKept (minLog2 g) (channelAt s ch)
+  channels : (ch : ℕ) → ch < g.num_capture_channels → ChannelKept (min_log2 g) (channel_at s ch)
 
-min-number : (g : FullBandSettings) → T (number (minLog2 g))
-unfolding minLog2
+min-number : (g : FullBandSettings) → T (number (min_log2 g))
+unfolding min_log2
 min-number g = log2-number (add binary32 g.min epsilon)
 
-module _ (g : FullBandSettings) (passed : settingsRefusal g ≡ accepted) where
+module _ (g : FullBandSettings) (passed : settings_refusal g ≡ accepted) where
   few : g.num_capture_channels ≤ 4
-  unfolding settingsRefusal
+  unfolding settings_refusal
   few = few-channels g.min g.max_l g.max_h g.num_capture_channels passed
 
   pub started-kept : Kept g (started g)
@@ -59,107 +59,107 @@ module _ (g : FullBandSettings) (passed : settingsRefusal g ≡ accepted) where
       record {
         settings = refl;
         channels = λ ch h.
-            subst (ChannelKept (minLog2 g)) (sym (getD-tab 4 (λ c. freshChannel (minLog2 g)) ch noChannel (omega (arith, few))))
-            (fresh_kept (minLog2 g) (min-number g));
+            subst (ChannelKept (min_log2 g)) (sym (get_or-tab 4 (λ c. fresh_channel (min_log2 g)) ch no_channel (omega (arith, few))))
+            (fresh_kept (min_log2 g) (min-number g));
       }
 
   pub updated-kept :
       (s : FullBandErleEstimator) (converged : List Bool) (render capture residual : List Float) → Kept g s
-      → UpdateOk (stateOk s) s.settings.num_capture_channels converged render capture residual
+      → UpdateOk (state_ok s) s.settings.num_capture_channels converged render capture residual
       → Kept g (updated s converged render capture residual)
   unfolding updated
   updated-kept s converged render capture residual kept ok =
       let given = rw kept.settings at ok in
       let n = g.num_capture_channels in
       let next : ℕ → FullBandChannel = λ ch.
-      channelAfter (minLog2 g) (get_or converged ch false) render (part capture ch) (part residual ch) (channelAt s ch) in
+      channel_after (min_log2 g) (get_or converged ch false) render (part capture ch) (part residual ch) (channel_at s ch) in
       record {
         settings = kept.settings;
         channels = λ ch h.
             rw kept.settings
-            (subst (ChannelKept (minLog2 g)) (sym (getD-tab-first 4 n next (channelAt s) ch noChannel few h))
-            (after_kept (minLog2 g) (min-number g) (get_or converged ch false) render (part capture ch) (part residual ch) (channelAt s ch)
-            (one-point n capture ch given.longCapture given.captureOk h)
-            (one-point n residual ch given.longResidual given.residualOk h)
+            (subst (ChannelKept (min_log2 g)) (sym (get_or-tab-first 4 n next (channel_at s) ch no_channel few h))
+            (after_kept (min_log2 g) (min-number g) (get_or converged ch false) render (part capture ch) (part residual ch) (channel_at s ch)
+            (one-point n capture ch given.long_capture given.capture_ok h)
+            (one-point n residual ch given.long_residual given.residual_ok h)
             (kept.channels ch h)));
       }
 
   answer-kept : (s : FullBandErleEstimator) (c : Call) → Kept g s → Kept g (answer s c).state
-  unfolding answer updateAnswer updateRefusal resetAnswer
+  unfolding answer update_answer update_refusal reset_answer
   answer-kept s (update channels converged render capture residual) kept =
-      let n = updateRefusal s channels converged render capture residual in
+      let n = update_refusal s channels converged render capture residual in
       let count = s.settings.num_capture_channels in
       cond_has (Kept g) (eqb n accepted)
-      (λ e. updated-kept s converged render capture residual kept (update-ok (stateOk s) count channels converged render capture residual (eqb-true n accepted e)))
+      (λ e. updated-kept s converged render capture residual kept (update-ok (state_ok s) count channels converged render capture residual (eqb-true n accepted e)))
       (λ e. kept)
-  answer-kept s reset kept = cond_has (Kept g) (eqb (stateRefusal s) accepted) (λ e. rw kept.settings started-kept) (λ e. kept)
+  answer-kept s reset kept = cond_has (Kept g) (eqb (state_refusal s) accepted) (λ e. rw kept.settings started-kept) (λ e. kept)
 
-  run-kept : (calls : List Call) → Kept g (run (startAnswer g).state calls)
-  unfolding run startAnswer
+  run-kept : (calls : List Call) → Kept g (run (start_answer g).state calls)
+  unfolding run start_answer
   run-kept calls = run-keeps (Kept g) (λ s c. (answer s c).state) answer-kept calls _ (rw passed started-kept)
 
 -- ---- never refused under 20
 
-pub state-ok : (g : FullBandSettings) (s : FullBandErleEstimator) → settingsRefusal g ≡ accepted → Kept g s → stateOk s ≡ true
-unfolding stateOk
+pub state-ok : (g : FullBandSettings) (s : FullBandErleEstimator) → settings_refusal g ≡ accepted → Kept g s → state_ok s ≡ true
+unfolding state_ok
 state-ok g s passed kept =
     rw (kept.settings, passed)
-    (every_first channelOk g.num_capture_channels s.channels noChannel
-    (λ ch h. channel-ok (channelAt s ch) (kept.channels ch h)))
+    (every_first channel_ok g.num_capture_channels s.channels no_channel
+    (λ ch h. channel-ok (channel_at s ch) (kept.channels ch h)))
 
-answer-not-20 : (s : FullBandErleEstimator) (c : Call) → stateOk s ≡ true → (answer s c).refused ≡ badState → ⊥
-unfolding answer updateAnswer updateRefusal resetAnswer stateRefusal
+answer-not-20 : (s : FullBandErleEstimator) (c : Call) → state_ok s ≡ true → (answer s c).refused ≡ bad_state → ⊥
+unfolding answer update_answer update_refusal reset_answer state_refusal
 answer-not-20 s (update channels converged render capture residual) ok e =
     update-not-20 s.settings.num_capture_channels channels converged render capture residual (rw ok at e)
 answer-not-20 s reset ok e = let never : ◌≡◌ {A = ℕ} 0 20 = rw ok at e in omega arith
 
-pub never-bad-state : (g : FullBandSettings) → (startAnswer g).refused ≡ accepted → NeverBadState (startAnswer g).state
-unfolding NeverBadState startAnswer stateRefusal
+pub never-bad-state : (g : FullBandSettings) → (start_answer g).refused ≡ accepted → NeverBadState (start_answer g).state
+unfolding NeverBadState start_answer state_refusal
 never-bad-state g e calls =
-    let s = run (startAnswer g).state calls in
+    let s = run (start_answer g).state calls in
     let ok = state-ok g s e (run-kept g e calls) in
     record { calls = λ next. answer-not-20 s next ok; readings = rw ok }
 
 -- ---- figures
 
-abbrev notBelow : Float → FullBandChannel → Bool
-notBelow min c = le min c.erle_time_domain_log2
+abbrev not_below : Float → FullBandChannel → Bool
+not_below min c = le min c.erle_time_domain_log2
 
 -- what no figure is below, the least is not
 least-from-not-below :
-    (min x : Float) (cs : List FullBandChannel) → le min x ≡ true → every (notBelow min) cs ≡ true → le min (leastFrom x cs) ≡ true
-unfolding leastFrom every
+    (min x : Float) (cs : List FullBandChannel) → le min x ≡ true → every (not_below min) cs ≡ true → le min (least_from x cs) ≡ true
+unfolding least_from every
 least-from-not-below min x [] p all = p
 least-from-not-below min x (c ∷ cs) p all =
     least-from-not-below min (smaller x c.erle_time_domain_log2) cs
-    (smaller-not-below min x c.erle_time_domain_log2 p (and_left (notBelow min c) _ all))
-    (and_right (notBelow min c) _ all)
+    (smaller-not-below min x c.erle_time_domain_log2 p (and_left (not_below min c) _ all))
+    (and_right (not_below min c) _ all)
 
 least-not-below :
-    (min none : Float) (cs : List FullBandChannel) → le min none ≡ true → every (notBelow min) cs ≡ true → le min (leastOr none cs) ≡ true
-unfolding leastOr every
+    (min none : Float) (cs : List FullBandChannel) → le min none ≡ true → every (not_below min) cs ≡ true → le min (least_or none cs) ≡ true
+unfolding least_or every
 least-not-below min none [] p all = p
 least-not-below min none (c ∷ cs) p all =
-    least-from-not-below min c.erle_time_domain_log2 cs (and_left (notBelow min c) _ all) (and_right (notBelow min c) _ all)
+    least-from-not-below min c.erle_time_domain_log2 cs (and_left (not_below min c) _ all) (and_right (not_below min c) _ all)
 
-pub figures-not-below-minimum : (g : FullBandSettings) → (startAnswer g).refused ≡ accepted → FiguresNotBelowMinimum g (startAnswer g).state
-unfolding FiguresNotBelowMinimum startAnswer fullbandLog2
+pub figures-not-below-minimum : (g : FullBandSettings) → (start_answer g).refused ≡ accepted → FiguresNotBelowMinimum g (start_answer g).state
+unfolding FiguresNotBelowMinimum start_answer fullband_log2
 figures-not-below-minimum g e calls =
-    let s = run (startAnswer g).state calls in
+    let s = run (start_answer g).state calls in
     let kept = run-kept g e calls in
-    let min = minLog2 g in
+    let min = min_log2 g in
     record {
       channels = λ ch h. (kept.channels ch h).figure;
       least =
           rw kept.settings
           (least-not-below min min _ (not-below-itself min (min-number g))
-          (every_first (notBelow min) g.num_capture_channels s.channels noChannel (λ ch h. (kept.channels ch h).figure)));
+          (every_first (not_below min) g.num_capture_channels s.channels no_channel (λ ch h. (kept.channels ch h).figure)));
     }
 
 -- ---- a start
 
 -- what is answered by the definition promises both
 pub start-promises :
-    (g : FullBandSettings) {r : FullBandAnswer} → r ≡ startAnswer g
-    → (r ≡ startAnswer g) × ((r.refused ≡ accepted → NeverBadState r.state) × (r.refused ≡ accepted → FiguresNotBelowMinimum g r.state))
+    (g : FullBandSettings) {r : FullBandAnswer} → r ≡ start_answer g
+    → (r ≡ start_answer g) × ((r.refused ≡ accepted → NeverBadState r.state) × (r.refused ≡ accepted → FiguresNotBelowMinimum g r.state))
 start-promises g same = (same, (rw same (never-bad-state g), rw same (figures-not-below-minimum g)))

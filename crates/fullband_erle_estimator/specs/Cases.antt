@@ -2,16 +2,16 @@
 use Rattle.std.specs.Prelude.{◌≡◌, Bool, cond, [], ◌∷◌, Float}
 use Rattle.aec3_common.specs.Cases.{ReadBack}
 use Rattle.aec3_common.specs.Refusal.{accepted}
-use Rattle.fullband_channel.specs.Instantaneous.{optionalCase, isPresent, optionalRefusal, optionalValues}
-use Rattle.fullband_erle_estimator.specs.FullBand.{figureCase, figureNumber, figureValues}
+use Rattle.fullband_channel.specs.Instantaneous.{optional_case, is_present, optional_refusal, optional_values}
+use Rattle.fullband_erle_estimator.specs.FullBand.{figure_case, figure_number, figure_values}
 
 -- what may be absent is no refusal, and has its number where it is present
 pub record OptionalReadBack (present : Bool) (x : Float) : Type 0 where
-  pub refusal : optionalRefusal (optionalCase present x) ≡ accepted
-  pub there : isPresent (optionalCase present x) ≡ present
-  pub values : optionalValues (optionalCase present x) ≡ cond present (x ∷ []) []
+  pub refusal : optional_refusal (optional_case present x) ≡ accepted
+  pub there : is_present (optional_case present x) ≡ present
+  pub values : optional_values (optional_case present x) ≡ cond present (x ∷ []) []
 
 -- Claim: each case is read back as it was made.
 pub record CasesReadBack : Type 0 where
-  pub figure : ReadBack figureCase figureNumber figureValues (λ figure. figure)
+  pub figure : ReadBack figure_case figure_number figure_values (λ figure. figure)
   pub optional : (present : Bool) (x : Float) → OptionalReadBack present x

@@ -6,8 +6,8 @@ use Rattle.aec3_common.specs.Binary32.{zero32}
 use Rattle.aec3_common.specs.Refusal.{accepted}
 use Rattle.fullband_channel.specs.Instantaneous.{epsilon}
 use Rattle.fullband_erle_estimator.specs.declared.settings.FullBandSettings.{FullBandSettings}
-use Rattle.fullband_erle_estimator.specs.FullBand.{settingsRefusal}
+use Rattle.fullband_erle_estimator.specs.FullBand.{settings_refusal}
 
 -- Claim: the minimum plus 0.001 is above 0 wherever the settings break neither 1 nor 2.
 unfoldable pub MinimumIsPositive : Type 0
-MinimumIsPositive = (s : FullBandSettings) → settingsRefusal s ≡ accepted → lt zero32 (add binary32 s.min epsilon) ≡ true
+MinimumIsPositive = (s : FullBandSettings) → settings_refusal s ≡ accepted → lt zero32 (add binary32 s.min epsilon) ≡ true

@@ -2,18 +2,18 @@
 use Rattle.std.specs.Prelude.{◌≡◌, true, List, ℕ, ◌<◌, Float}
 use Rattle.std.specs.Float.Ieee.{le}
 use Rattle.aec3_common.specs.Calls.{Call, update, reset, run_by}
-use Rattle.aec3_common.specs.Refusal.{accepted, badState}
+use Rattle.aec3_common.specs.Refusal.{accepted, bad_state}
 use Rattle.fullband_erle_estimator.specs.declared.settings.FullBandSettings.{FullBandSettings}
 use Rattle.fullband_erle_estimator.specs.declared.FullBandErleEstimator.{FullBandErleEstimator}
 use Rattle.fullband_erle_estimator.specs.declared.FullBandAnswer.{FullBandAnswer}
-use Rattle.fullband_erle_estimator.specs.FullBand.{stateRefusal, minLog2, resetAnswer, updateAnswer, channelAt, fullbandLog2}
+use Rattle.fullband_erle_estimator.specs.FullBand.{state_refusal, min_log2, reset_answer, update_answer, channel_at, fullband_log2}
 
 -- ---- lists of calls
 
 -- what an update or a reset is answered with
 unfoldable pub answer : FullBandErleEstimator → Call → FullBandAnswer
-answer s (update channels converged render capture residual) = updateAnswer s channels converged render capture residual
-answer s reset = resetAnswer s
+answer s (update channels converged render capture residual) = update_answer s channels converged render capture residual
+answer s reset = reset_answer s
 
 -- each call takes up the state that the last one left; a refused one passes on what it got
 unfoldable pub run : FullBandErleEstimator → List Call → FullBandErleEstimator
@@ -23,8 +23,8 @@ run s calls = run_by (λ t c. (answer t c).state) s calls
 
 -- no update or reset of the state is refused under 20, and no reading of a figure or a quality at all
 pub record NotBad (s : FullBandErleEstimator) : Type 0 where
-  pub calls : (next : Call) → (answer s next).refused ≡ badState → ⊥
-  pub readings : stateRefusal s ≡ accepted
+  pub calls : (next : Call) → (answer s next).refused ≡ bad_state → ⊥
+  pub readings : state_refusal s ≡ accepted
 
 -- Claim, which an accepted start promises of the state that it answers with: after any list of updates and resets, refused calls
 -- among them, no call is refused under 20.
@@ -34,13 +34,13 @@ NeverBadState start = (calls : List Call) → NotBad (run start calls)
 -- ---- figures
 
 -- a channel's log2 figure
-abbrev pub figureOf : FullBandErleEstimator → ℕ → Float
-figureOf s ch = (channelAt s ch).erle_time_domain_log2
+abbrev pub figure_of : FullBandErleEstimator → ℕ → Float
+figure_of s ch = (channel_at s ch).erle_time_domain_log2
 
 -- the figure of each channel, and the least of them, is a number and not below log2 of (the minimum plus 0.001); a NaN fails `le`
 pub record NotBelowMinimum (settings : FullBandSettings) (s : FullBandErleEstimator) : Type 0 where
-  pub channels : (ch : ℕ) → ch < settings.num_capture_channels → le (minLog2 settings) (figureOf s ch) ≡ true
-  pub least : le (minLog2 settings) (fullbandLog2 s) ≡ true
+  pub channels : (ch : ℕ) → ch < settings.num_capture_channels → le (min_log2 settings) (figure_of s ch) ≡ true
+  pub least : le (min_log2 settings) (fullband_log2 s) ≡ true
 
 -- Claim, which an accepted start promises too: in such runs no figure is below log2 of (the minimum plus 0.001), and none is a NaN.
 unfoldable pub FiguresNotBelowMinimum : FullBandSettings → FullBandErleEstimator → Type 0

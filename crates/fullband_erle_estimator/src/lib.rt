@@ -6,10 +6,10 @@ mod settings;
 ghost use Rattle.std.specs.Prelude.{◌≡◌, true, not, ◌≤◌, take};
 ghost use Rattle.aec3_common.specs.Lists.{every};
 ghost use Rattle.aec3_common.specs.Refusal.{accepted};
-ghost use Rattle.fullband_channel.specs.Channel.{channelOk};
-ghost use Rattle.fullband_erle_estimator.specs.FullBand.{stateOk, started as FullBand·started, startAnswer, resetAnswer, updateAnswer, fullbandLog2, decibels as FullBand·decibels, log2Answer, decibelAnswer, qualityAnswer};
+ghost use Rattle.fullband_channel.specs.Channel.{channel_ok};
+ghost use Rattle.fullband_erle_estimator.specs.FullBand.{state_ok, started as FullBand·started, start_answer, reset_answer, update_answer, fullband_log2, decibels as FullBand·decibels, log2_answer, decibel_answer, quality_answer};
 ghost use Rattle.fullband_erle_estimator.specs.Runs.{NeverBadState, FiguresNotBelowMinimum};
-ghost use Rattle.fullband_erle_estimator.specs.Steps.{loudFor};
+ghost use Rattle.fullband_erle_estimator.specs.Steps.{loud_for};
 
 use aec3_common::judge::call_refusal;
 use aec3_common::refusal::{ACCEPTED, BAD_STATE};
@@ -80,9 +80,9 @@ fn none_converged(converged_filters: &[bool]) -> bool
 }
 
 // Whether the render sum is above its threshold. It is not added up where no channel would look at it.
-#[tactic(auto, unfolding(crate::specs::Steps::loudFor))]
+#[tactic(auto, unfolding(crate::specs::Steps::loud_for))]
 pub fn is_loud(converged_filters: &[bool], x2: &[f32]) -> bool
-    ensures { result ≡ loudFor converged_filters.now x2.now }
+    ensures { result ≡ loud_for converged_filters.now x2.now }
 {
     if none_converged(converged_filters) {
         false
@@ -95,7 +95,7 @@ impl FullBandErleEstimator {
     // A start. 1 and 2 are turned away, with a state that every later call turns away. After an accepted start no later call is turned
     // away under 20, and every log2 figure stays a number not below log2 of (the minimum plus 0.001).
     pub fn new(settings: FullBandSettings) -> FullBandAnswer
-        ensures value { result ≡ startAnswer settings }
+        ensures value { result ≡ start_answer settings }
         ensures never_bad_state { result.refused ≡ accepted → NeverBadState result.state }
         ensures figures_not_below_minimum { result.refused ≡ accepted → FiguresNotBelowMinimum settings result.state }
     {
@@ -112,7 +112,7 @@ impl FullBandErleEstimator {
     // Whether each of the state's channels passes number 20.
     fn channels_ok(self) -> bool
         requires { self.settings.num_capture_channels ≤ 4 }
-        ensures { result ≡ every channelOk (take self.settings.num_capture_channels self.channels) }
+        ensures { result ≡ every channel_ok (take self.settings.num_capture_channels self.channels) }
     {
         let count = self.settings.num_capture_channels;
         let mut ok = true;
@@ -124,9 +124,9 @@ impl FullBandErleEstimator {
     }
 
     // Whether number 20 lets the state pass.
-    #[tactic(auto, unfolding(crate::specs::FullBand::stateOk))]
+    #[tactic(auto, unfolding(crate::specs::FullBand::state_ok))]
     fn ok(self) -> bool
-        ensures { result ≡ stateOk self }
+        ensures { result ≡ state_ok self }
     {
         let settings = self.settings;
         if settings.refusal() == ACCEPTED {
@@ -137,9 +137,9 @@ impl FullBandErleEstimator {
     }
 
     // Every record as after a start. 20 is turned away.
-    #[tactic(auto, unfolding(crate::specs::FullBand::resetAnswer, crate::specs::FullBand::stateRefusal))]
+    #[tactic(auto, unfolding(crate::specs::FullBand::reset_answer, crate::specs::FullBand::state_refusal))]
     pub fn reset(self) -> FullBandAnswer
-        ensures { result ≡ resetAnswer self }
+        ensures { result ≡ reset_answer self }
     {
         if self.ok() {
             FullBandAnswer {
@@ -164,7 +164,7 @@ impl FullBandErleEstimator {
         y2: &[f32],
         e2: &[f32],
     ) -> FullBandAnswer
-        ensures { result ≡ updateAnswer self num_capture_channels converged_filters.now x2.now y2.now e2.now }
+        ensures { result ≡ update_answer self num_capture_channels converged_filters.now x2.now y2.now e2.now }
     {
         let settings = self.settings;
         let count = settings.num_capture_channels;
@@ -197,8 +197,8 @@ impl FullBandErleEstimator {
 
     // The least figure of the state's channels.
     fn least_figure(self) -> f32
-        requires { stateOk self ≡ true }
-        ensures { result ≡ fullbandLog2 self }
+        requires { state_ok self ≡ true }
+        ensures { result ≡ fullband_log2 self }
     {
         let count = self.settings.num_capture_channels;
         let first = self.channels[0];
@@ -211,9 +211,9 @@ impl FullBandErleEstimator {
     }
 
     // The fullband log2 figure. 20 is turned away.
-    #[tactic(auto, unfolding(crate::specs::FullBand::log2Answer, crate::specs::FullBand::stateRefusal))]
+    #[tactic(auto, unfolding(crate::specs::FullBand::log2_answer, crate::specs::FullBand::state_refusal))]
     pub fn fullband_erle_log2(self) -> FullBandFigure
-        ensures { result ≡ log2Answer self }
+        ensures { result ≡ log2_answer self }
     {
         if self.ok() {
             FullBandFigure::Value(self.least_figure())
@@ -223,9 +223,9 @@ impl FullBandErleEstimator {
     }
 
     // The same in decibels.
-    #[tactic(auto, unfolding(crate::specs::FullBand::decibelAnswer, crate::specs::FullBand::stateRefusal))]
+    #[tactic(auto, unfolding(crate::specs::FullBand::decibel_answer, crate::specs::FullBand::state_refusal))]
     pub fn fullband_erle_db(self) -> FullBandFigure
-        ensures { result ≡ decibelAnswer self }
+        ensures { result ≡ decibel_answer self }
     {
         if self.ok() {
             FullBandFigure::Value(decibels(self.least_figure()))
@@ -235,9 +235,9 @@ impl FullBandErleEstimator {
     }
 
     // The quality of a channel's linear filter; absent too for a channel that the state does not have. 20 is turned away.
-    #[tactic(auto, unfolding(crate::specs::FullBand::qualityAnswer, crate::specs::FullBand::stateRefusal))]
+    #[tactic(auto, unfolding(crate::specs::FullBand::quality_answer, crate::specs::FullBand::state_refusal))]
     pub fn linear_quality_estimate(self, channel: usize) -> QualityAnswer
-        ensures { result ≡ qualityAnswer self channel }
+        ensures { result ≡ quality_answer self channel }
     {
         let settings = self.settings;
         if !self.ok() {

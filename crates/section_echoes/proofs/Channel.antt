@@ -10,35 +10,35 @@ use lib.Dec.{ltb}
 use lib.Ieee.{Float, nan}
 use lib.ListN.{get_or}
 use Rattle.aec3_common.specs.Binary32.{zero32}
-use Rattle.aec3_common.proofs.Tables.{getD-tab, tab-same}
+use Rattle.aec3_common.proofs.Tables.{get_or-tab, tab-same}
 use Rattle.section_echoes.specs.declared.RenderRing.{RenderRing}
-use Rattle.section_echoes.specs.Echoes.{sectionRender, sectionEcho, echoSum, reached, leastReached, activeSection, activeSections}
-use Rattle.section_echoes.specs.Steps.{bands, firstSections, renderSums, sum_at, echoSums}
+use Rattle.section_echoes.specs.Echoes.{section_render, section_echo, echo_sum, reached, least_reached, active_section, active_sections}
+use Rattle.section_echoes.specs.Steps.{bands, first_sections, render_sums, sum_at, echo_sums}
 
 -- what stands at one of the sections
-pub first-at : (sections : ℕ) (f : ℕ → ℕ → Float) (s k : ℕ) → sections ≤ 8 → s < sections → k < 65 → sum_at (firstSections sections f) s k ≡ f s k
-unfolding firstSections
+pub first-at : (sections : ℕ) (f : ℕ → ℕ → Float) (s k : ℕ) → sections ≤ 8 → s < sections → k < 65 → sum_at (first_sections sections f) s k ≡ f s k
+unfolding first_sections
 first-at sections f s k few h b =
-    ap (λ (l : List Float). get_or l k nan) (getD-tab 8 (λ t. bands (λ j. cond (ltb t sections) (f t j) zero32)) s [] (omega arith))
-    ∙ getD-tab 65 (λ j. cond (ltb s sections) (f s j) zero32) k nan b
+    ap (λ (l : List Float). get_or l k nan) (get_or-tab 8 (λ t. bands (λ j. cond (ltb t sections) (f t j) zero32)) s [] (omega arith))
+    ∙ get_or-tab 65 (λ j. cond (ltb s sections) (f s j) zero32) k nan b
     ∙ rw (lt-ltb s sections h)
 
 -- an echo sum reads the sections up to its own
-echo-same : (echo other : ℕ → Float) (s : ℕ) → ((t : ℕ) → t ≤ s → echo t ≡ other t) → echoSum echo s ≡ echoSum other s
-unfolding echoSum
+echo-same : (echo other : ℕ → Float) (s : ℕ) → ((t : ℕ) → t ≤ s → echo t ≡ other t) → echo_sum echo s ≡ echo_sum other s
+unfolding echo_sum
 echo-same echo other zero same = same zero (le_refl zero)
 echo-same echo other (suc s) same = rw (same (suc s) (le_refl (suc s)), echo-same echo other s (λ t h. same t (omega arith)))
 
 -- the walk reads the sections below its end
-least-same : (p q : ℕ → Bool) (n : ℕ) → ((t : ℕ) → t < n → p t ≡ q t) → leastReached p n ≡ leastReached q n
-unfolding leastReached
+least-same : (p q : ℕ → Bool) (n : ℕ) → ((t : ℕ) → t < n → p t ≡ q t) → least_reached p n ≡ least_reached q n
+unfolding least_reached
 least-same p q zero same = refl
 least-same p q (suc n) same = rw (same n (le_refl (suc n)), least-same p q n (λ t h. same t (omega arith)))
 
 active-same :
     (sections : ℕ) (sums others : ℕ → Float) → 1 ≤ sections → ((s : ℕ) → s < sections → sums s ≡ others s)
-    → activeSection sections sums ≡ activeSection sections others
-unfolding activeSection
+    → active_section sections sums ≡ active_section sections others
+unfolding active_section
 active-same sections sums others some same =
     rw (least-same (reached sections sums) (reached sections others) sections
     (λ s h. rw (same (sections - 1) (omega arith), same s h)))
@@ -47,18 +47,18 @@ module _ (ring : RenderRing) (spectra : List Float) (headroom : ℕ) (boundaries
   -- the echo sums of the render sums are those of the definition
   echo-is :
       (s k : ℕ) → sections ≤ 8 → s < sections → k < 65
-      → sum_at (echoSums (renderSums ring spectra headroom boundaries sections count) responses boundaries sections count) s k
-      ≡ echoSum (λ t. sectionEcho ring spectra headroom boundaries count responses t k) s
-  unfolding echoSums renderSums sectionEcho
+      → sum_at (echo_sums (render_sums ring spectra headroom boundaries sections count) responses boundaries sections count) s k
+      ≡ echo_sum (λ t. section_echo ring spectra headroom boundaries count responses t k) s
+  unfolding echo_sums render_sums section_echo
   echo-is s k few h b =
       first-at sections _ s k few h b
       ∙ echo-same _ _ s
-      (λ t below. rw (first-at sections (sectionRender ring spectra headroom boundaries count) t k few (omega arith) b))
+      (λ t below. rw (first-at sections (section_render ring spectra headroom boundaries count) t k few (omega arith) b))
 
   -- what active_sections makes of echo_sums, and that of render_sums, is the definition's
   pub active-sections-are :
       1 ≤ sections → sections ≤ 8
-      → bands (λ k. activeSection sections (λ s. sum_at (echoSums (renderSums ring spectra headroom boundaries sections count) responses boundaries sections count) s k))
-      ≡ activeSections ring spectra headroom boundaries sections count responses
-  unfolding activeSections
+      → bands (λ k. active_section sections (λ s. sum_at (echo_sums (render_sums ring spectra headroom boundaries sections count) responses boundaries sections count) s k))
+      ≡ active_sections ring spectra headroom boundaries sections count responses
+  unfolding active_sections
   active-sections-are some few = tab-same 65 0 _ _ (λ k b. active-same sections _ _ some (λ s h. echo-is s k few h b))

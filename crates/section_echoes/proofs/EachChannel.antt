@@ -11,21 +11,21 @@ use lib.ListN.{length, get_or, take, drop, set}
 use Rattle.aec3_common.specs.Binary32.{zero32}
 use Rattle.aec3_common.specs.Lists.{tab}
 use Rattle.aec3_common.proofs.Choices.{cond-by}
-use Rattle.aec3_common.proofs.Tables.{length-tab, getD-tab, tab-same, Stored, stored-none, stored_more, stored-firsts}
+use Rattle.aec3_common.proofs.Tables.{length-tab, get_or-tab, tab-same, Stored, stored-none, stored_more, stored-firsts}
 use Rattle.section_echoes.specs.declared.RenderRing.{RenderRing}
-use Rattle.section_echoes.specs.Echoes.{renderSum, fewer, sectionBegin, sectionBlocks, sectionRender, activeSection, activeSections}
-use Rattle.section_echoes.specs.Packed.{total, responsesOf}
-use Rattle.section_echoes.specs.Steps.{bands, firstSections, renderSums, sum_at, echoSums, allActive}
+use Rattle.section_echoes.specs.Echoes.{render_sum, fewer, section_begin, section_blocks, section_render, active_section, active_sections}
+use Rattle.section_echoes.specs.Packed.{total, responses_of}
+use Rattle.section_echoes.specs.Steps.{bands, first_sections, render_sums, sum_at, echo_sums, all_active}
 use Rattle.section_echoes.proofs.Channel.{active-sections-are}
 use Rattle.section_echoes.proofs.Packed.{total-more}
 
 -- no active section in any channel yet
-abbrev pub noneActive : List (List ℕ)
-noneActive = tab 4 (λ ch. bands (λ k. 0))
+abbrev pub none_active : List (List ℕ)
+none_active = tab 4 (λ ch. bands (λ k. 0))
 
 -- no render sum in any section
-abbrev pub noRender : List (List Float)
-noRender = tab 8 (λ s. bands (λ k. zero32))
+abbrev pub no_render : List (List Float)
+no_render = tab 8 (λ s. bands (λ k. zero32))
 
 -- a section without responses has no blocks
 none-fewer : (end begin : ℕ) → 0 ≡ fewer end 0 - begin
@@ -35,77 +35,77 @@ none-fewer (suc end) begin = rw (lt-ltb 0 (suc end) (omega arith)) (omega arith)
 -- with no response no block is walked, and every render sum is zero
 pub no-render :
     (ring : RenderRing) (spectra : List Float) (headroom : ℕ) (boundaries : List ℕ) (sections : ℕ)
-    → noRender ≡ renderSums ring spectra headroom boundaries sections 0
-unfolding renderSums firstSections sectionRender renderSum
+    → no_render ≡ render_sums ring spectra headroom boundaries sections 0
+unfolding render_sums first_sections section_render render_sum
 no-render ring spectra headroom boundaries sections =
     tab-same 8 [] _ _
     (λ s b.
     tab-same 65 nan _ _
     (λ k h.
-    let no_block : 0 ≡ sectionBlocks boundaries 0 s = none-fewer (get_or boundaries (s + 1) 0) (get_or boundaries s 0) in
-    cond-by (ltb s sections) zero32 (renderSum ring spectra headroom (sectionBegin boundaries s) (sectionBlocks boundaries 0 s) k) zero32
-    (λ e. ap (λ (n : ℕ). renderSum ring spectra headroom (sectionBegin boundaries s) n k) no_block)
+    let no_block : 0 ≡ section_blocks boundaries 0 s = none-fewer (get_or boundaries (s + 1) 0) (get_or boundaries s 0) in
+    cond-by (ltb s sections) zero32 (render_sum ring spectra headroom (section_begin boundaries s) (section_blocks boundaries 0 s) k) zero32
+    (λ e. ap (λ (n : ℕ). render_sum ring spectra headroom (section_begin boundaries s) n k) no_block)
     (λ e. refl)))
 
 module _ (ring : RenderRing) (spectra : List Float) (headroom : ℕ) (boundaries : List ℕ) (sections : ℕ) (counts : List ℕ) (responses : List Float) where
   -- the active sections of a channel
-  abbrev pub activeAt : ℕ → List ℕ
-  activeAt ch = activeSections ring spectra headroom boundaries sections (get_or counts ch 0) (responsesOf counts responses ch)
+  abbrev pub active_at : ℕ → List ℕ
+  active_at ch = active_sections ring spectra headroom boundaries sections (get_or counts ch 0) (responses_of counts responses ch)
 
   -- The loop is at a channel: it knows where the channel's responses begin and for how many responses its render sums were made, and
   -- the channels before have their active sections.
-  pub record Going (r : List (List ℕ)) (render : List (List Float)) (madeFor at ch : ℕ) : Type 0 where
+  pub record Going (r : List (List ℕ)) (render : List (List Float)) (made_for at ch : ℕ) : Type 0 where
     pub begins : at ≡ total (take ch counts) * 65
-    pub sums : render ≡ renderSums ring spectra headroom boundaries sections madeFor
-    pub stored : Stored 4 [] 0 (length counts) activeAt noneActive r ch
+    pub sums : render ≡ render_sums ring spectra headroom boundaries sections made_for
+    pub stored : Stored 4 [] 0 (length counts) active_at none_active r ch
 
-  pub going-begun : Going noneActive noRender 0 0 0
+  pub going-begun : Going none_active no_render 0 0 0
   unfolding total
   going-begun =
       record {
         begins = refl;
         sums = no-render ring spectra headroom boundaries sections;
-        stored = stored-none [] 0 (length counts) activeAt noneActive (omega arith) (length-tab 4 (λ ch. bands (λ k. 0)));
+        stored = stored-none [] 0 (length counts) active_at none_active (omega arith) (length-tab 4 (λ ch. bands (λ k. 0)));
       }
 
 module _
     {ring : RenderRing} {spectra : List Float} {headroom : ℕ} {boundaries : List ℕ} {sections : ℕ} {counts : List ℕ} {responses : List Float}
-    {r : List (List ℕ)} {render : List (List Float)} {madeFor at ch : ℕ}
-    (g : Going ring spectra headroom boundaries sections counts responses r render madeFor at ch)
+    {r : List (List ℕ)} {render : List (List Float)} {made_for at ch : ℕ}
+    (g : Going ring spectra headroom boundaries sections counts responses r render made_for at ch)
   where
     -- the part that is lent is the channel's
-    pub going-part : take (at + get_or counts ch 0 * 65 - at) (drop at responses) ≡ responsesOf counts responses ch
-    unfolding responsesOf
+    pub going-part : take (at + get_or counts ch 0 * 65 - at) (drop at responses) ≡ responses_of counts responses ch
+    unfolding responses_of
     going-part =
         let size : at + get_or counts ch 0 * 65 - at ≡ get_or counts ch 0 * 65 = omega arith in
         rw (size, g.begins) refl
 
     pub going_more :
-        {next sums : List (List Float)} {active : List ℕ} → (1 ≤ sections) × (sections ≤ 8) → next ≡ renderSums ring spectra headroom boundaries sections (get_or counts ch 0)
-        → sums ≡ echoSums next (take (at + get_or counts ch 0 * 65 - at) (drop at responses)) boundaries sections (get_or counts ch 0)
-        → active ≡ bands (λ k. activeSection sections (λ s. sum_at sums s k))
+        {next sums : List (List Float)} {active : List ℕ} → (1 ≤ sections) × (sections ≤ 8) → next ≡ render_sums ring spectra headroom boundaries sections (get_or counts ch 0)
+        → sums ≡ echo_sums next (take (at + get_or counts ch 0 * 65 - at) (drop at responses)) boundaries sections (get_or counts ch 0)
+        → active ≡ bands (λ k. active_section sections (λ s. sum_at sums s k))
         → ch < length counts → length counts ≤ 4
         → Going ring spectra headroom boundaries sections counts responses (set r ch active) next (get_or counts ch 0) (at + get_or counts ch 0 * 65) (ch + 1)
     going_more {next = next} {sums = sums} {active = active} (some, all) made summed found h few =
         let count : ℕ = get_or counts ch 0 in
-        let own : List Float = responsesOf counts responses ch in
-        let echoes : sums ≡ echoSums (renderSums ring spectra headroom boundaries sections count) own boundaries sections count =
+        let own : List Float = responses_of counts responses ch in
+        let echoes : sums ≡ echo_sums (render_sums ring spectra headroom boundaries sections count) own boundaries sections count =
         summed
-        ∙ ap (λ (x : List (List Float)). echoSums x (take (at + count * 65 - at) (drop at responses)) boundaries sections count) made
-        ∙ ap (λ (y : List Float). echoSums (renderSums ring spectra headroom boundaries sections count) y boundaries sections count) going-part in
+        ∙ ap (λ (x : List (List Float)). echo_sums x (take (at + count * 65 - at) (drop at responses)) boundaries sections count) made
+        ∙ ap (λ (y : List Float). echo_sums (render_sums ring spectra headroom boundaries sections count) y boundaries sections count) going-part in
         record {
           begins = omega (arith, g.begins, total-more counts ch h);
           sums = made;
           stored =
               stored_more active g.stored h few
               (found
-              ∙ ap (λ (x : List (List Float)). bands (λ k. activeSection sections (λ s. sum_at x s k))) echoes
+              ∙ ap (λ (x : List (List Float)). bands (λ k. active_section sections (λ s. sum_at x s k))) echoes
               ∙ active-sections-are ring spectra headroom boundaries sections count own some all);
         }
 
-    pub going-over : length counts ≤ ch → r ≡ allActive ring spectra headroom boundaries sections counts responses
-    unfolding allActive
+    pub going-over : length counts ≤ ch → r ≡ all_active ring spectra headroom boundaries sections counts responses
+    unfolding all_active
     going-over h =
         stored-firsts g.stored h
         ∙ tab-same 4 [] _ _
-        (λ j b. ap (λ (l : List ℕ). cond (ltb j (length counts)) (activeAt ring spectra headroom boundaries sections counts responses j) l) (getD-tab 4 (λ i. bands (λ k. 0)) j [] b))
+        (λ j b. ap (λ (l : List ℕ). cond (ltb j (length counts)) (active_at ring spectra headroom boundaries sections counts responses j) l) (get_or-tab 4 (λ i. bands (λ k. 0)) j [] b))

@@ -14,7 +14,7 @@ use lib.Seq.{length-take-le}
 use Rattle.aec3_common.specs.Lists.{every}
 use Rattle.aec3_common.proofs.Choices.{and_left, and_right}
 use Rattle.aec3_common.proofs.Every.{every-at, every-by}
-use Rattle.section_echoes.specs.Packed.{total, responsesOf}
+use Rattle.section_echoes.specs.Packed.{total, responses_of}
 
 -- one channel more
 total-on : (counts : List ℕ) (ch : ℕ) → ch < length counts → total (take (suc ch) counts) ≡ total (take ch counts) + get_or counts ch 0
@@ -52,8 +52,8 @@ module _ (counts : List ℕ) (responses : List Float) (ch : ℕ) (long : length 
   packed-end = omega (arith, long, total-more counts ch h, total-part counts (ch + 1))
 
   -- and are as many as its count asks
-  pub packed-long : length (responsesOf counts responses ch) ≡ get_or counts ch 0 * 65
-  unfolding responsesOf
+  pub packed-long : length (responses_of counts responses ch) ≡ get_or counts ch 0 * 65
+  unfolding responses_of
   packed-long =
       let from : ℕ = total (take ch counts) * 65 in
       length-take-le (get_or counts ch 0 * 65) (drop from responses) (rw (length-drop from responses) (omega (arith, packed-end)))

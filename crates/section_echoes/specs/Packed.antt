@@ -7,5 +7,5 @@ total [] = 0
 total (n ∷ ns) = n + total ns
 
 -- a channel's responses stand behind those of the channels before it
-unfoldable pub responsesOf : List ℕ → List Float → ℕ → List Float
-responsesOf counts responses ch = take (get_or counts ch 0 * 65) (drop (total (take ch counts) * 65) responses)
+unfoldable pub responses_of : List ℕ → List Float → ℕ → List Float
+responses_of counts responses ch = take (get_or counts ch 0 * 65) (drop (total (take ch counts) * 65) responses)

@@ -2,12 +2,12 @@
 ghost use Rattle.std.specs.Prelude.{◌≡◌, cond, ◌≤◌, ltb, length, get_or};
 ghost use Rattle.std.specs.Float.{nan, binary32};
 ghost use Rattle.std.specs.Float.Ieee.{mul, le};
-ghost use Rattle.section_echoes.specs.Echoes.{activeShare, activeSection};
+ghost use Rattle.section_echoes.specs.Echoes.{active_share, active_section};
 ghost use Rattle.section_echoes.specs.Steps.{bands, sum_at};
 
 // 0.9 of each total.
 fn targets(totals: &[f32; 65]) -> [f32; 65]
-    ensures { result ≡ bands (λ k. mul binary32 activeShare (get_or totals.now k nan)) }
+    ensures { result ≡ bands (λ k. mul binary32 active_share (get_or totals.now k nan)) }
 {
     let mut r = [0.0; 65];
     for k in 0..65 {
@@ -53,7 +53,7 @@ fn keep_below(active: &mut [u32; 65], sections: u32)
 // too small ends where the walk down does, and takes all bands together.
 pub fn active_sections(sums: &[[f32; 65]; 8], sections: usize) -> [u32; 65]
     requires { (1 ≤ sections) × (sections ≤ 8) }
-    ensures { result ≡ bands (λ k. activeSection sections (λ s. sum_at sums.now s k)) }
+    ensures { result ≡ bands (λ k. active_section sections (λ s. sum_at sums.now s k)) }
 {
     let targets = targets(&sums[sections - 1]);
     let mut active = [0; 65];

@@ -2,8 +2,8 @@
 ghost use Rattle.std.specs.Prelude.{◌≡◌, true, ◌*◌, ◌≤◌, ◌<◌, leb, length};
 ghost use Rattle.aec3_common.specs.Lists.{every};
 ghost use Rattle.section_echoes.specs.Packed.{total};
-ghost use Rattle.section_echoes.specs.Steps.{RingFits, renderSums, allActive};
-ghost use Rattle.aec3_common.specs.Settings.{maxFilterLengthBlocks};
+ghost use Rattle.section_echoes.specs.Steps.{RingFits, render_sums, all_active};
+ghost use Rattle.aec3_common.specs.Settings.{max_filter_length_blocks};
 
 use crate::RenderRing;
 use crate::active::active_sections;
@@ -22,9 +22,9 @@ fn renew_render_sums(
     count: usize,
 )
     requires ring_fits { RingFits ring spectra.now }
-    requires headroom_lt_max_filter_length_blocks { (headroom < maxFilterLengthBlocks) × (sections ≤ 8) × (count ≤ maxFilterLengthBlocks) }
-    requires sums_value { sums.old ≡ renderSums ring spectra.now headroom boundaries.now sections made_for }
-    ensures { sums.new ≡ renderSums ring spectra.now headroom boundaries.now sections count }
+    requires headroom_lt_max_filter_length_blocks { (headroom < max_filter_length_blocks) × (sections ≤ 8) × (count ≤ max_filter_length_blocks) }
+    requires sums_value { sums.old ≡ render_sums ring spectra.now headroom boundaries.now sections made_for }
+    ensures { sums.new ≡ render_sums ring spectra.now headroom boundaries.now sections count }
 {
     if count != made_for {
         *sums = render_sums(ring, spectra, headroom, boundaries, sections, count);
@@ -43,9 +43,9 @@ pub fn all_active_sections(
     responses: &[f32],
 ) -> [[u32; 65]; 4]
     requires ring_fits { RingFits ring spectra.now }
-    requires headroom_lt_max_filter_length_blocks { (headroom < maxFilterLengthBlocks) × (1 ≤ sections) × (sections ≤ 8) × (length counts.now ≤ 4) }
-    requires counts_value { (every (λ n. leb n maxFilterLengthBlocks) counts.now ≡ true) × (length responses.now ≡ total counts.now * 65) }
-    ensures { result ≡ allActive ring spectra.now headroom boundaries.now sections counts.now responses.now }
+    requires headroom_lt_max_filter_length_blocks { (headroom < max_filter_length_blocks) × (1 ≤ sections) × (sections ≤ 8) × (length counts.now ≤ 4) }
+    requires counts_value { (every (λ n. leb n max_filter_length_blocks) counts.now ≡ true) × (length responses.now ≡ total counts.now * 65) }
+    ensures { result ≡ all_active ring spectra.now headroom boundaries.now sections counts.now responses.now }
 {
     let mut r = [[0; 65]; 4];
     let mut render = [[0.0; 65]; 8];

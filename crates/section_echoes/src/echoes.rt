@@ -2,15 +2,15 @@
 ghost use Rattle.std.specs.Prelude.{◌≡◌, ◌-◌, ◌*◌, ◌≤◌, length, get_or};
 ghost use Rattle.std.specs.Float.{nan, binary32};
 ghost use Rattle.std.specs.Float.Ieee.{add, mul};
-ghost use Rattle.section_echoes.specs.Echoes.{responseSum};
-ghost use Rattle.section_echoes.specs.Steps.{ResponsesFit, bands, withPowers, echoSums};
-ghost use Rattle.aec3_common.specs.Settings.{maxFilterLengthBlocks};
+ghost use Rattle.section_echoes.specs.Echoes.{response_sum};
+ghost use Rattle.section_echoes.specs.Steps.{ResponsesFit, bands, with_powers, echo_sums};
+ghost use Rattle.aec3_common.specs.Settings.{max_filter_length_blocks};
 
 use crate::renders::fewer;
 
 fn add_powers(sums: &mut [f32; 65], powers: &[f32])
     requires { (length sums.old ≡ 65) × (length powers.now ≡ 65) }
-    ensures { sums.new ≡ withPowers powers.now sums.old }
+    ensures { sums.new ≡ with_powers powers.now sums.old }
 {
     for k in 0..65 {
         sums[k] = sums[k] + powers[k];
@@ -19,8 +19,8 @@ fn add_powers(sums: &mut [f32; 65], powers: &[f32])
 
 // The responses of the blocks from one to below another.
 fn section_response(responses: &[f32], from: usize, to: usize) -> [f32; 65]
-    requires { (to * 65 ≤ length responses.now) × (to ≤ maxFilterLengthBlocks) }
-    ensures { result ≡ bands (responseSum responses.now from (to - from)) }
+    requires { (to * 65 ≤ length responses.now) × (to ≤ max_filter_length_blocks) }
+    ensures { result ≡ bands (response_sum responses.now from (to - from)) }
 {
     let mut sums = [0.0; 65];
     for block in from..to {
@@ -63,7 +63,7 @@ pub fn echo_sums(
 ) -> [[f32; 65]; 8]
     requires le_sections { (1 ≤ sections) × (sections ≤ 8) }
     requires responses_fit { ResponsesFit count responses.now }
-    ensures { result ≡ echoSums render.now responses.now boundaries.now sections count }
+    ensures { result ≡ echo_sums render.now responses.now boundaries.now sections count }
 {
     let mut r = [[0.0; 65]; 8];
     let response = section_response(responses, boundaries[0], fewer(boundaries[1], count));

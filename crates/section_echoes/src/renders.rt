@@ -1,8 +1,8 @@
 // The render power of each section, band by band.
 ghost use Rattle.std.specs.Prelude.{◌≡◌, ◌+◌, ◌-◌, ◌*◌, ◌≤◌, ◌<◌, length};
-ghost use Rattle.section_echoes.specs.Echoes.{fewer as Echoes·fewer, renderShare, renderSum};
-ghost use Rattle.section_echoes.specs.Steps.{RingFits, bands, walkedPositions, withShares, withSlot, renderSums};
-ghost use Rattle.aec3_common.specs.Settings.{maxFilterLengthBlocks};
+ghost use Rattle.section_echoes.specs.Echoes.{fewer as Echoes·fewer, render_share, render_sum};
+ghost use Rattle.section_echoes.specs.Steps.{RingFits, bands, walked_positions, with_shares, with_slot, render_sums};
+ghost use Rattle.aec3_common.specs.Settings.{max_filter_length_blocks};
 
 use crate::RenderRing;
 use crate::walk::walked_positions;
@@ -19,7 +19,7 @@ pub fn fewer(a: usize, b: usize) -> usize
 // A share of each power added to the sums.
 fn add_shares(sums: &mut [f32; 65], powers: &[f32], share: f32)
     requires { (length sums.old ≡ 65) × (length powers.now ≡ 65) }
-    ensures { sums.new ≡ withShares powers.now share sums.old }
+    ensures { sums.new ≡ with_shares powers.now share sums.old }
 {
     for k in 0..65 {
         sums[k] = sums[k] + powers[k] * share;
@@ -29,7 +29,7 @@ fn add_shares(sums: &mut [f32; 65], powers: &[f32], share: f32)
 // The same for each channel of the slot that begins at position.
 fn add_slot(sums: &mut [f32; 65], spectra: &[f32], position: usize, channels: usize, share: f32)
     requires { (length sums.old ≡ 65) × (position + channels * 65 ≤ length spectra.now) }
-    ensures { sums.new ≡ withSlot spectra.now position channels share sums.old }
+    ensures { sums.new ≡ with_slot spectra.now position channels share sums.old }
 {
     for ch in 0..channels {
         let from = position + ch * 65;
@@ -49,8 +49,8 @@ fn section_render(
     to: usize,
 ) -> [f32; 65]
     requires ring_fits { RingFits ring spectra.now }
-    requires positions_value { (positions.now ≡ walkedPositions ring headroom) × (share ≡ renderShare ring.channels) × (to ≤ maxFilterLengthBlocks) }
-    ensures { result ≡ bands (renderSum ring spectra.now headroom from (to - from)) }
+    requires positions_value { (positions.now ≡ walked_positions ring headroom) × (share ≡ render_share ring.channels) × (to ≤ max_filter_length_blocks) }
+    ensures { result ≡ bands (render_sum ring spectra.now headroom from (to - from)) }
 {
     let mut sums = [0.0; 65];
     for block in from..to {
@@ -69,8 +69,8 @@ pub fn render_sums(
     count: usize,
 ) -> [[f32; 65]; 8]
     requires ring_fits { RingFits ring spectra.now }
-    requires headroom_lt_max_filter_length_blocks { (headroom < maxFilterLengthBlocks) × (sections ≤ 8) × (count ≤ maxFilterLengthBlocks) }
-    ensures { result ≡ renderSums ring spectra.now headroom boundaries.now sections count }
+    requires headroom_lt_max_filter_length_blocks { (headroom < max_filter_length_blocks) × (sections ≤ 8) × (count ≤ max_filter_length_blocks) }
+    ensures { result ≡ render_sums ring spectra.now headroom boundaries.now sections count }
 {
     let positions = walked_positions(ring, headroom);
     let share = 1.0 / rounded(ring.channels as u32);

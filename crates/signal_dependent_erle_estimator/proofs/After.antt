@@ -7,37 +7,37 @@ use lib.Ieee.{Float}
 use Rattle.aec3_common.proofs.Choices.{cond-by}
 use Rattle.correction_factors.specs.declared.CorrectionFactors.{CorrectionFactors}
 use Rattle.correction_factors.specs.declared.ErleLimits.{ErleLimits}
-use Rattle.correction_factors.specs.Steps.{factorsOf, correctedBy}
-use Rattle.correction_factors.specs.Streams.{corrected, lastCopied}
+use Rattle.correction_factors.specs.Steps.{factors_of, corrected_by}
+use Rattle.correction_factors.specs.Streams.{corrected, last_copied}
 use Rattle.correction_factors.proofs.Corrected.{corrected-is}
 use Rattle.signal_dependent_erle_estimator.specs.declared.settings.SignalDependentSettings.{SignalDependentSettings}
 use Rattle.signal_dependent_erle_estimator.specs.declared.channel.SignalDependentChannel.{SignalDependentChannel}
-use Rattle.signal_dependent_erle_estimator.specs.Channel.{Lent, learntIf, channelAfter}
+use Rattle.signal_dependent_erle_estimator.specs.Channel.{Lent, learnt_if, channel_after}
 
 module _
     (g : SignalDependentSettings) (active : List ℕ) (renders : List Float) (l : Lent) (c : SignalDependentChannel)
-    {learning : CorrectionFactors} (learns : learning ≡ learntIf g active renders l.converged l.capture l.residual c.corrections)
-    {factors : List Float} (chooses : factors ≡ factorsOf learning.correction_factors active)
+    {learning : CorrectionFactors} (learns : learning ≡ learnt_if g active renders l.converged l.capture l.residual c.corrections)
+    {factors : List Float} (chooses : factors ≡ factors_of learning.correction_factors active)
     {limits : ErleLimits} (limited : limits ≡ record { min = g.min; max_l = g.max_l; max_h = g.max_h })
   where
     -- a stream, corrected
     stream-is :
         {stream : List Float} (average : List Float)
-        → stream ≡ lastCopied (correctedBy limits.min limits.max_l limits.max_h factors average)
-        → stream ≡ corrected g.min g.max_l g.max_h (learntIf g active renders l.converged l.capture l.residual c.corrections).correction_factors active average
+        → stream ≡ last_copied (corrected_by limits.min limits.max_l limits.max_h factors average)
+        → stream ≡ corrected g.min g.max_l g.max_h (learnt_if g active renders l.converged l.capture l.residual c.corrections).correction_factors active average
     stream-is average e = e ∙ rw (limited, chooses, learns) (corrected-is g.min g.max_l g.max_h _ active average)
 
     module _
-        {plain : List Float} (corrects : plain ≡ lastCopied (correctedBy limits.min limits.max_l limits.max_h factors l.average))
+        {plain : List Float} (corrects : plain ≡ last_copied (corrected_by limits.min limits.max_l limits.max_h factors l.average))
         {compensated : List Float}
       where
         -- the record, once the compensated stream is what it shall be
         record_is :
-            compensated ≡ (channelAfter g active renders l c).erle_onset_compensated
+            compensated ≡ (channel_after g active renders l c).erle_onset_compensated
             → ◌≡◌ {A = SignalDependentChannel}
             (record { erle = plain; erle_onset_compensated = compensated; corrections = learning; n_active_sections = active })
-            (channelAfter g active renders l c)
-        unfolding channelAfter
+            (channel_after g active renders l c)
+        unfolding channel_after
         record_is e =
             λ i. record {
               erle = stream-is l.average corrects i;
@@ -48,18 +48,18 @@ module _
 
         pub after_on :
             g.onset_detection ≡ true
-            → compensated ≡ lastCopied (correctedBy limits.min limits.max_l limits.max_h factors l.averageCompensated)
+            → compensated ≡ last_copied (corrected_by limits.min limits.max_l limits.max_h factors l.average_compensated)
             → ◌≡◌ {A = SignalDependentChannel}
             (record { erle = plain; erle_onset_compensated = compensated; corrections = learning; n_active_sections = active })
-            (channelAfter g active renders l c)
-        unfolding channelAfter
+            (channel_after g active renders l c)
+        unfolding channel_after
         after_on on e =
-            record_is (cond-by g.onset_detection compensated _ _ (λ q. stream-is l.averageCompensated e) (λ q. absurd (false≢true (sym q ∙ on))))
+            record_is (cond-by g.onset_detection compensated _ _ (λ q. stream-is l.average_compensated e) (λ q. absurd (false≢true (sym q ∙ on))))
 
         pub after-off :
-            g.onset_detection ≡ false → compensated ≡ lastCopied c.erle_onset_compensated
+            g.onset_detection ≡ false → compensated ≡ last_copied c.erle_onset_compensated
             → ◌≡◌ {A = SignalDependentChannel}
             (record { erle = plain; erle_onset_compensated = compensated; corrections = learning; n_active_sections = active })
-            (channelAfter g active renders l c)
-        unfolding channelAfter
+            (channel_after g active renders l c)
+        unfolding channel_after
         after-off off e = record_is (cond-by g.onset_detection compensated _ _ (λ q. absurd (false≢true (sym off ∙ q))) (λ q. e))

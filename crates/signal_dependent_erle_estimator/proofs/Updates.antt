@@ -9,51 +9,51 @@ use lib.Dec.{ltb}
 use lib.Ieee.{Float}
 use lib.ListN.{length, get_or, set}
 use Rattle.aec3_common.specs.Lists.{every}
-use Rattle.aec3_common.specs.Settings.{headroomBlocks}
+use Rattle.aec3_common.specs.Settings.{headroom_blocks}
 use Rattle.aec3_common.proofs.Choices.{cond_same}
 use Rattle.aec3_common.proofs.Every.{every-by}
-use Rattle.aec3_common.proofs.Tables.{Stored, length-tab, getD-tab, getD-tab-first, tab-same, stored_more, stored-firsts}
-use Rattle.section_echoes.specs.Echoes.{activeSection, activeSections, echoSum, sectionEcho}
-use Rattle.section_echoes.specs.Packed.{responsesOf}
-use Rattle.section_echoes.specs.Steps.{bands, allActive}
+use Rattle.aec3_common.proofs.Tables.{Stored, length-tab, get_or-tab, get_or-tab-first, tab-same, stored_more, stored-firsts}
+use Rattle.section_echoes.specs.Echoes.{active_section, active_sections, echo_sum, section_echo}
+use Rattle.section_echoes.specs.Packed.{responses_of}
+use Rattle.section_echoes.specs.Steps.{bands, all_active}
 use Rattle.section_echoes.proofs.Least.{active-below}
-use Rattle.correction_factors.specs.Factors.{subbandSums}
+use Rattle.correction_factors.specs.Factors.{subband_sums}
 use Rattle.signal_dependent_erle_estimator.specs.declared.channel.SignalDependentChannel.{SignalDependentChannel}
 use Rattle.signal_dependent_erle_estimator.specs.declared.SignalDependentErleEstimator.{SignalDependentErleEstimator}
-use Rattle.signal_dependent_erle_estimator.specs.Channel.{Lent, channelAfter}
-use Rattle.signal_dependent_erle_estimator.specs.SignalDependent.{Update, noChannel, channelAt, activeOf, lentTo, updated}
+use Rattle.signal_dependent_erle_estimator.specs.Channel.{Lent, channel_after}
+use Rattle.signal_dependent_erle_estimator.specs.SignalDependent.{Update, no_channel, channel_at, active_of, lent_to, updated}
 
 -- the active sections of a channel, of all that were found
 pub active-at :
     (s : SignalDependentErleEstimator) (u : Update) {active : List (List ℕ)} (ch : ℕ)
     → let g = s.settings in
-    active ≡ allActive u.ring u.spectra (headroomBlocks g.delay_headroom_samples) s.section_boundaries_blocks g.num_sections u.counts u.responses
-    → ch < length u.counts → length u.counts ≤ 4 → get_or active ch [] ≡ activeOf s u ch
-unfolding activeOf allActive
+    active ≡ all_active u.ring u.spectra (headroom_blocks g.delay_headroom_samples) s.section_boundaries_blocks g.num_sections u.counts u.responses
+    → ch < length u.counts → length u.counts ≤ 4 → get_or active ch [] ≡ active_of s u ch
+unfolding active_of all_active
 active-at s u ch e h few =
     ap (λ (l : List (List ℕ)). get_or l ch []) e
-    ∙ getD-tab-first 4 (length u.counts) _ (λ j. bands (λ k. 0)) ch [] few h
+    ∙ get_or-tab-first 4 (length u.counts) _ (λ j. bands (λ k. 0)) ch [] few h
 
 -- in each band, by the echo sums of the sections
-abbrev activeIn : SignalDependentErleEstimator → Update → ℕ → ℕ → ℕ
-activeIn s u ch k =
+abbrev active_in : SignalDependentErleEstimator → Update → ℕ → ℕ → ℕ
+active_in s u ch k =
     let g = s.settings in
-    let headroom = headroomBlocks g.delay_headroom_samples in
+    let headroom = headroom_blocks g.delay_headroom_samples in
     let boundaries = s.section_boundaries_blocks in
     let count = get_or u.counts ch 0 in
-    activeSection g.num_sections
-    (echoSum (λ t. sectionEcho u.ring u.spectra headroom boundaries count (responsesOf u.counts u.responses ch) t k))
+    active_section g.num_sections
+    (echo_sum (λ t. section_echo u.ring u.spectra headroom boundaries count (responses_of u.counts u.responses ch) t k))
 
 -- each is one of the sections
 pub active-within :
     (s : SignalDependentErleEstimator) (u : Update) (ch : ℕ) → 1 ≤ s.settings.num_sections
-    → every (λ n. ltb n s.settings.num_sections) (activeOf s u ch) ≡ true
-unfolding activeOf activeSections
+    → every (λ n. ltb n s.settings.num_sections) (active_of s u ch) ≡ true
+unfolding active_of active_sections
 active-within s u ch some =
-    every-by (λ n. ltb n s.settings.num_sections) (activeOf s u ch) 0
+    every-by (λ n. ltb n s.settings.num_sections) (active_of s u ch) 0
     (λ k h.
-    let b : k < 65 = omega (arith, length-tab 65 (activeIn s u ch)) in
-    rw (getD-tab 65 (activeIn s u ch) k 0 b) (lt-ltb _ s.settings.num_sections (active-below s.settings.num_sections _ some)))
+    let b : k < 65 = omega (arith, length-tab 65 (active_in s u ch)) in
+    rw (get_or-tab 65 (active_in s u ch) k 0 b) (lt-ltb _ s.settings.num_sections (active-below s.settings.num_sections _ some)))
 
 -- What the loop has done at ch: the records before it are updated, by the active sections that were found, the render sums and what
 -- each channel is lent.
@@ -63,8 +63,8 @@ pub record Updating
   pub settings : r.settings ≡ s.settings
   pub boundaries : r.section_boundaries_blocks ≡ s.section_boundaries_blocks
   pub stored :
-      Stored 4 noChannel 0 s.settings.num_capture_channels
-      (λ ch. channelAfter s.settings (get_or active ch []) renders (lent ch) (channelAt s ch))
+      Stored 4 no_channel 0 s.settings.num_capture_channels
+      (λ ch. channel_after s.settings (get_or active ch []) renders (lent ch) (channel_at s ch))
       s.channels r.channels ch
 
 module _
@@ -74,7 +74,7 @@ module _
     -- one record more
     pub updating-more :
         {c : SignalDependentChannel} → ch < s.settings.num_capture_channels → s.settings.num_capture_channels ≤ 4
-        → c ≡ channelAfter s.settings (get_or active ch []) renders (lent ch) (channelAt s ch)
+        → c ≡ channel_after s.settings (get_or active ch []) renders (lent ch) (channel_at s ch)
         → Updating s active renders lent
         (record { settings = r.settings; section_boundaries_blocks = r.section_boundaries_blocks; channels = set r.channels ch c })
         (ch + 1)
@@ -82,20 +82,20 @@ module _
 
     -- all records
     pub updating-over :
-        (u : Update) (average averageCompensated : ℕ → List Float)
+        (u : Update) (average average_compensated : ℕ → List Float)
         → s.settings.num_capture_channels ≤ ch → length u.counts ≡ s.settings.num_capture_channels → length u.counts ≤ 4
         → let g = s.settings in
-        active ≡ allActive u.ring u.spectra (headroomBlocks g.delay_headroom_samples) s.section_boundaries_blocks g.num_sections u.counts u.responses
-        → renders ≡ subbandSums u.render → ((ch : ℕ) → lent ch ≡ lentTo u average averageCompensated ch)
-        → r ≡ updated s u average averageCompensated
+        active ≡ all_active u.ring u.spectra (headroom_blocks g.delay_headroom_samples) s.section_boundaries_blocks g.num_sections u.counts u.responses
+        → renders ≡ subband_sums u.render → ((ch : ℕ) → lent ch ≡ lent_to u average average_compensated ch)
+        → r ≡ updated s u average average_compensated
     unfolding updated
-    updating-over u average averageCompensated over counted few found summed same =
+    updating-over u average average_compensated over counted few found summed same =
         λ i. record { settings = t.settings i; section_boundaries_blocks = t.boundaries i; channels = all i }
       where
-        all : r.channels ≡ (updated s u average averageCompensated).channels
+        all : r.channels ≡ (updated s u average average_compensated).channels
         all =
             stored-firsts t.stored over
-            ∙ tab-same 4 noChannel _ _
+            ∙ tab-same 4 no_channel _ _
             (λ j b.
-            cond_same (ltb j s.settings.num_capture_channels) (channelAt s j)
+            cond_same (ltb j s.settings.num_capture_channels) (channel_at s j)
             (λ q. rw (active-at s u j found (omega (arith, ltb-true j s.settings.num_capture_channels q)) few, summed, same j)))

@@ -1,19 +1,19 @@
 -- One channel of the signal-dependent estimator: its streams, its active sections, and what it has learnt.
 use Rattle.std.specs.Prelude.{Bool, cond, List, ℕ, Float}
 use Rattle.aec3_common.specs.Lists.{tab}
-use Rattle.correction_factors.specs.Factors.{subbandSums, freshFactors, lessonOf, learnt}
-use Rattle.correction_factors.specs.Streams.{corrected, lastCopied}
+use Rattle.correction_factors.specs.Factors.{subband_sums, fresh_factors, lesson_of, learnt}
+use Rattle.correction_factors.specs.Streams.{corrected, last_copied}
 use Rattle.correction_factors.specs.declared.CorrectionFactors.{CorrectionFactors}
 use Rattle.signal_dependent_erle_estimator.specs.declared.settings.SignalDependentSettings.{SignalDependentSettings}
 use Rattle.signal_dependent_erle_estimator.specs.declared.channel.SignalDependentChannel.{SignalDependentChannel}
 
 -- a start, and a reset
-unfoldable pub freshChannel : Float → SignalDependentChannel
-freshChannel min =
+unfoldable pub fresh_channel : Float → SignalDependentChannel
+fresh_channel min =
     record {
       erle = tab 65 (λ k. min);
       erle_onset_compensated = tab 65 (λ k. min);
-      corrections = freshFactors min;
+      corrections = fresh_factors min;
       n_active_sections = tab 65 (λ k. 0);
     }
 
@@ -26,29 +26,29 @@ pub record Lent : Type 0 where
   pub capture : List Float
   pub residual : List Float
   pub average : List Float
-  pub averageCompensated : List Float
+  pub average_compensated : List Float
 
 -- A converged channel learns, by the active section of each band and the subband sums of render, capture and residual.
-unfoldable pub learntIf : SignalDependentSettings → List ℕ → List Float → Bool → List Float → List Float → CorrectionFactors → CorrectionFactors
-learntIf g active renderSums converged capture residual c =
+unfoldable pub learnt_if : SignalDependentSettings → List ℕ → List Float → Bool → List Float → List Float → CorrectionFactors → CorrectionFactors
+learnt_if g active render_sums converged capture residual c =
     cond converged
     (learnt g.min g.max_l g.max_h
-    (lessonOf g.num_sections active renderSums (subbandSums capture) (subbandSums residual))
+    (lesson_of g.num_sections active render_sums (subband_sums capture) (subband_sums residual))
     c)
     c
 
 -- Every channel has new active sections and new streams, the compensated one only with onset detection on. The subband sums of the
 -- render power are the same for every channel.
-unfoldable pub channelAfter : SignalDependentSettings → List ℕ → List Float → Lent → SignalDependentChannel → SignalDependentChannel
-channelAfter g active renderSums l c =
-    let learning = learntIf g active renderSums l.converged l.capture l.residual c.corrections in
+unfoldable pub channel_after : SignalDependentSettings → List ℕ → List Float → Lent → SignalDependentChannel → SignalDependentChannel
+channel_after g active render_sums l c =
+    let learning = learnt_if g active render_sums l.converged l.capture l.residual c.corrections in
     let factors = learning.correction_factors in
     record {
       erle = corrected g.min g.max_l g.max_h factors active l.average;
       erle_onset_compensated =
           cond g.onset_detection
-          (corrected g.min g.max_l g.max_h factors active l.averageCompensated)
-          (lastCopied c.erle_onset_compensated);
+          (corrected g.min g.max_l g.max_h factors active l.average_compensated)
+          (last_copied c.erle_onset_compensated);
       corrections = learning;
       n_active_sections = active;
     }

@@ -1,10 +1,10 @@
 -- Lists of calls: the state that they leave is taken up again.
 use Rattle.std.specs.Prelude.{◌≡◌, List, Float}
 use Rattle.aec3_common.specs.Calls.{run_by}
-use Rattle.aec3_common.specs.Refusal.{badState}
+use Rattle.aec3_common.specs.Refusal.{bad_state}
 use Rattle.signal_dependent_erle_estimator.specs.declared.SignalDependentErleEstimator.{SignalDependentErleEstimator}
 use Rattle.signal_dependent_erle_estimator.specs.declared.SignalDependentAnswer.{SignalDependentAnswer}
-use Rattle.signal_dependent_erle_estimator.specs.SignalDependent.{Update, resetAnswer, updateAnswer}
+use Rattle.signal_dependent_erle_estimator.specs.SignalDependent.{Update, reset_answer, update_answer}
 
 -- a call, accepted or refused: an update, with the subband estimator's plain and compensated streams; or a reset
 pub data Call : Type 0 where
@@ -13,8 +13,8 @@ pub data Call : Type 0 where
 
 -- what it is answered with
 unfoldable pub answer : SignalDependentErleEstimator → Call → SignalDependentAnswer
-answer s (update u average averageCompensated) = updateAnswer s u average averageCompensated
-answer s reset = resetAnswer s
+answer s (update u average average_compensated) = update_answer s u average average_compensated
+answer s reset = reset_answer s
 
 -- each call takes up the state that the last one left; a refused one passes on what it got
 unfoldable pub run : SignalDependentErleEstimator → List Call → SignalDependentErleEstimator
@@ -23,4 +23,4 @@ run s calls = run_by (λ t c. (answer t c).state) s calls
 -- Claim, which an accepted start promises of the state that it answers with: after any list of updates and resets, refused calls
 -- among them, no call is refused under 20.
 unfoldable pub NeverBadState : SignalDependentErleEstimator → Type 0
-NeverBadState start = (calls : List Call) (next : Call) → (answer (run start calls) next).refused ≡ badState → ⊥
+NeverBadState start = (calls : List Call) (next : Call) → (answer (run start calls) next).refused ≡ bad_state → ⊥

@@ -1,8 +1,8 @@
 // One channel's record: its streams, its active sections, and what it has learnt.
 ghost use Rattle.std.specs.Prelude.{◌≡◌, true, ◌≤◌, ltb, length};
 ghost use Rattle.aec3_common.specs.Lists.{every};
-ghost use Rattle.signal_dependent_erle_estimator.specs.Channel.{freshChannel, learntIf, channelAfter};
-ghost use Rattle.signal_dependent_erle_estimator.specs.SignalDependent.{channelOk};
+ghost use Rattle.signal_dependent_erle_estimator.specs.Channel.{fresh_channel, learnt_if, channel_after};
+ghost use Rattle.signal_dependent_erle_estimator.specs.SignalDependent.{channel_ok};
 
 use crate::settings::SignalDependentSettings;
 use correction_factors::{
@@ -30,9 +30,9 @@ fn all_below(active: &[u32; 65], sections: u32) -> bool
 }
 
 impl SignalDependentChannel {
-    #[tactic(auto, unfolding(crate::specs::Channel::freshChannel, aec3_common::specs::Lists::tab))]
+    #[tactic(auto, unfolding(crate::specs::Channel::fresh_channel, aec3_common::specs::Lists::tab))]
     pub fn new(min: f32) -> SignalDependentChannel
-        ensures { result ≡ freshChannel min }
+        ensures { result ≡ fresh_channel min }
     {
         SignalDependentChannel {
             erle: [min; 65],
@@ -43,16 +43,16 @@ impl SignalDependentChannel {
     }
 
     // Whether number 20 lets the record pass.
-    #[tactic(auto, unfolding(crate::specs::SignalDependent::channelOk))]
+    #[tactic(auto, unfolding(crate::specs::SignalDependent::channel_ok))]
     pub fn ok(self, sections: u32) -> bool
-        ensures { result ≡ channelOk sections self }
+        ensures { result ≡ channel_ok sections self }
     {
         let active = self.n_active_sections;
         all_below(&active, sections)
     }
 
     // What the channel has learnt after an update: where it is not converged, nothing new.
-    #[tactic(auto, unfolding(crate::specs::Channel::learntIf))]
+    #[tactic(auto, unfolding(crate::specs::Channel::learnt_if))]
     fn learnt(
         self,
         settings: SignalDependentSettings,
@@ -64,7 +64,7 @@ impl SignalDependentChannel {
     ) -> CorrectionFactors
         requires bound { (1 ≤ settings.num_sections) × (settings.num_sections ≤ 8) }
         requires y2_len { (length y2.now ≡ 65) × (length e2.now ≡ 65) }
-        ensures { result ≡ learntIf settings active.now x2.now converged y2.now e2.now self.corrections }
+        ensures { result ≡ learnt_if settings active.now x2.now converged y2.now e2.now self.corrections }
     {
         let corrections = self.corrections;
         if converged {
@@ -98,7 +98,7 @@ impl SignalDependentChannel {
         requires bound { (1 ≤ settings.num_sections) × (settings.num_sections ≤ 8) }
         requires active_value { every (λ n. ltb n settings.num_sections) active.now ≡ true }
         requires y2_len { (length y2.now ≡ 65) × (length e2.now ≡ 65) × (length average.now ≡ 65) × (length average_compensated.now ≡ 65) }
-        ensures { result ≡ channelAfter settings active.now x2.now (record { converged = converged; capture = y2.now; residual = e2.now; average = average.now; averageCompensated = average_compensated.now }) self }
+        ensures { result ≡ channel_after settings active.now x2.now (record { converged = converged; capture = y2.now; residual = e2.now; average = average.now; average_compensated = average_compensated.now }) self }
     {
         let corrections = self.learnt(settings, active, x2, converged, y2, e2);
         self.corrections = corrections;

@@ -1,12 +1,12 @@
 // Which updates are turned away.
 ghost use Rattle.std.specs.Prelude.{◌≡◌, ◌&&◌, ◌*◌, ◌≤◌, leb, eqb, length};
-ghost use Rattle.aec3_common.specs.Binary32.{valuesOk};
-ghost use Rattle.aec3_common.specs.Calls.{valuesInRange};
+ghost use Rattle.aec3_common.specs.Binary32.{values_ok};
+ghost use Rattle.aec3_common.specs.Calls.{values_in_range};
 ghost use Rattle.aec3_common.specs.Lists.{every};
 ghost use Rattle.section_echoes.specs.Packed.{total};
-ghost use Rattle.section_echoes.specs.Walk.{slotLength};
-ghost use Rattle.signal_dependent_erle_estimator.specs.SignalDependent.{Update, slotsReach, ringRefusal, responsesOk, allLengthsOk, refusalOf};
-ghost use Rattle.spectrum_buffer.specs.Ring.{maxSlots};
+ghost use Rattle.section_echoes.specs.Walk.{slot_length};
+ghost use Rattle.signal_dependent_erle_estimator.specs.SignalDependent.{Update, slots_reach, ring_refusal, responses_ok, all_lengths_ok, refusal_of};
+ghost use Rattle.spectrum_buffer.specs.Ring.{max_slots};
 
 use crate::settings::SignalDependentSettings;
 use aec3_common::judge::{all_values_ok, lengths_ok};
@@ -22,15 +22,15 @@ use spectrum_buffer::slots_ok;
 
 // Number 4: the slots are in their range, and the headroom blocks are not above them.
 fn slots_reach(slots: usize, headroom: usize) -> bool
-    ensures { result ≡ slotsReach slots headroom }
+    ensures { result ≡ slots_reach slots headroom }
 {
     slots_ok(slots) & (headroom <= slots)
 }
 
 // The first of 2, 4 and 9 that a ring breaks, or 0.
-#[tactic(auto, unfolding(crate::specs::SignalDependent::ringRefusal))]
+#[tactic(auto, unfolding(crate::specs::SignalDependent::ring_refusal))]
 pub fn ring_refusal(ring: RenderRing, headroom: usize) -> u32
-    ensures { result ≡ ringRefusal headroom ring }
+    ensures { result ≡ ring_refusal headroom ring }
 {
     if !render_channels_ok(ring.channels) {
         BAD_CHANNEL_COUNT
@@ -73,7 +73,7 @@ fn add_up_to(blocks: usize, counts: &[usize]) -> bool
 
 // Number 5, of the responses.
 fn responses_ok(channels: usize, filter_length: usize, counts: &[usize], responses: &[f32]) -> bool
-    ensures { result ≡ responsesOk channels filter_length counts.now responses.now }
+    ensures { result ≡ responses_ok channels filter_length counts.now responses.now }
 {
     (counts.len() == channels)
         & counts_ok(counts, filter_length)
@@ -83,14 +83,14 @@ fn responses_ok(channels: usize, filter_length: usize, counts: &[usize], respons
 
 // Number 5, of the spectra of a ring in its range.
 fn spectra_ok(ring: RenderRing, spectra: &[f32]) -> bool
-    requires { (ring.slots ≤ maxSlots) × (ring.channels ≤ 2) }
-    ensures { result ≡ eqb (length spectra.now) (ring.slots * slotLength ring.channels) }
+    requires { (ring.slots ≤ max_slots) × (ring.channels ≤ 2) }
+    ensures { result ≡ eqb (length spectra.now) (ring.slots * slot_length ring.channels) }
 {
     spectra.len() == ring.slots * (ring.channels * 65)
 }
 
 // Number 5, of all that is lent.
-#[tactic(auto, unfolding(crate::specs::SignalDependent::allLengthsOk, crate::specs::SignalDependent::lentLengthsOk))]
+#[tactic(auto, unfolding(crate::specs::SignalDependent::all_lengths_ok, crate::specs::SignalDependent::lent_lengths_ok))]
 fn all_lengths_ok(
     filter_length: usize,
     channels: usize,
@@ -105,8 +105,8 @@ fn all_lengths_ok(
     average_compensated: &[f32],
     converged: &[bool],
 ) -> bool
-    requires { (ring.slots ≤ maxSlots) × (ring.channels ≤ 2) }
-    ensures { result ≡ allLengthsOk filter_length (record { channels = channels; ring = ring; spectra = spectra.now; counts = counts.now; responses = responses.now; render = x2.now; capture = y2.now; residual = e2.now; converged = converged.now }) average.now average_compensated.now }
+    requires { (ring.slots ≤ max_slots) × (ring.channels ≤ 2) }
+    ensures { result ≡ all_lengths_ok filter_length (record { channels = channels; ring = ring; spectra = spectra.now; counts = counts.now; responses = responses.now; render = x2.now; capture = y2.now; residual = e2.now; converged = converged.now }) average.now average_compensated.now }
 {
     lengths_ok(channels, converged, x2, y2, e2)
         & spectra_ok(ring, spectra)
@@ -125,7 +125,7 @@ fn all_lent_values_ok(
     average: &[f32],
     average_compensated: &[f32],
 ) -> bool
-    ensures { result ≡ valuesInRange x2.now y2.now e2.now && valuesOk spectra.now && valuesOk responses.now && valuesOk average.now && valuesOk average_compensated.now }
+    ensures { result ≡ values_in_range x2.now y2.now e2.now && values_ok spectra.now && values_ok responses.now && values_ok average.now && values_ok average_compensated.now }
 {
     all_values_ok(x2, y2, e2)
         & values_ok(spectra)
@@ -135,7 +135,7 @@ fn all_lent_values_ok(
 }
 
 // The first of 20, 21, 2, 4, 9, 5 and 6, or 0, where it is known whether number 20 lets the state pass.
-#[tactic(auto, unfolding(crate::specs::SignalDependent::refusalOf, crate::specs::SignalDependent::allValuesOk, crate::specs::SignalDependent::lentValuesOk))]
+#[tactic(auto, unfolding(crate::specs::SignalDependent::refusal_of, crate::specs::SignalDependent::all_values_ok, crate::specs::SignalDependent::lent_values_ok))]
 pub fn update_refusal(
     state_ok: bool,
     settings: SignalDependentSettings,
@@ -151,7 +151,7 @@ pub fn update_refusal(
     average_compensated: &[f32],
     converged: &[bool],
 ) -> u32
-    ensures { result ≡ refusalOf state_ok settings (record { channels = channels; ring = ring; spectra = spectra.now; counts = counts.now; responses = responses.now; render = x2.now; capture = y2.now; residual = e2.now; converged = converged.now }) average.now average_compensated.now }
+    ensures { result ≡ refusal_of state_ok settings (record { channels = channels; ring = ring; spectra = spectra.now; counts = counts.now; responses = responses.now; render = x2.now; capture = y2.now; residual = e2.now; converged = converged.now }) average.now average_compensated.now }
 {
     if !state_ok {
         return BAD_STATE;

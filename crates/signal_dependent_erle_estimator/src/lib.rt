@@ -11,7 +11,7 @@ ghost use Rattle.aec3_common.specs.Refusal.{accepted};
 ghost use Rattle.aec3_common.specs.Spectra.{part as Spectra·part};
 ghost use Rattle.signal_dependent_erle_estimator.specs.Runs.{NeverBadState};
 ghost use Rattle.signal_dependent_erle_estimator.specs.Steps.{Passed};
-ghost use Rattle.signal_dependent_erle_estimator.specs.SignalDependent.{Update, sameFirst, boundariesOf, settingsPass, channelOk, stateOk, started as SignalDependent·started, updated as SignalDependent·updated, startAnswer, resetAnswer, updateAnswer};
+ghost use Rattle.signal_dependent_erle_estimator.specs.SignalDependent.{Update, same_first, boundaries_of, settings_pass, channel_ok, state_ok, started as SignalDependent·started, updated as SignalDependent·updated, start_answer, reset_answer, update_answer};
 
 use aec3_common::refusal::{ACCEPTED, BAD_STATE};
 use aec3_common::settings::headroom_blocks;
@@ -41,9 +41,9 @@ pub struct SignalDependentAnswer {
 }
 
 // The boundaries that settings give.
-#[tactic(auto, unfolding(crate::specs::SignalDependent::boundariesOf))]
+#[tactic(auto, unfolding(crate::specs::SignalDependent::boundaries_of))]
 pub fn boundaries_of(settings: SignalDependentSettings) -> [usize; 9]
-    ensures { result ≡ boundariesOf settings }
+    ensures { result ≡ boundaries_of settings }
 {
     let sections = section_boundaries(
         settings.num_sections,
@@ -56,7 +56,7 @@ pub fn boundaries_of(settings: SignalDependentSettings) -> [usize; 9]
 // Whether two tables of boundaries have the same first n.
 fn same_first(n: usize, held: &[usize; 9], given: &[usize; 9]) -> bool
     requires { n ≤ 9 }
-    ensures { result ≡ sameFirst n held.now given.now }
+    ensures { result ≡ same_first n held.now given.now }
 {
     let mut same = true;
     for k in 0..n {
@@ -67,7 +67,7 @@ fn same_first(n: usize, held: &[usize; 9], given: &[usize; 9]) -> bool
 
 // Whether the settings break none of 1, 2 and 3, and the boundaries held are those that they give.
 pub fn settings_pass(settings: SignalDependentSettings, held: &[usize; 9]) -> bool
-    ensures { result ≡ settingsPass settings held.now }
+    ensures { result ≡ settings_pass settings held.now }
 {
     if settings.refusal() == ACCEPTED {
         let given = boundaries_of(settings);
@@ -96,7 +96,7 @@ impl SignalDependentErleEstimator {
     // A start. 1, 2 and 3 are turned away, with a state that every later call turns away. After an accepted start no later
     // call is turned away under 20.
     pub fn new(settings: SignalDependentSettings) -> SignalDependentAnswer
-        ensures value { result ≡ startAnswer settings }
+        ensures value { result ≡ start_answer settings }
         ensures never_bad_state { result.refused ≡ accepted → NeverBadState result.state }
     {
         let refused = settings.refusal();
@@ -112,7 +112,7 @@ impl SignalDependentErleEstimator {
     // Whether each of the state's channels passes number 20.
     fn channels_ok(self) -> bool
         requires { (self.settings.num_capture_channels ≤ 4) × (self.settings.num_sections ≤ 8) }
-        ensures { result ≡ every (channelOk self.settings.num_sections) (take self.settings.num_capture_channels self.channels) }
+        ensures { result ≡ every (channel_ok self.settings.num_sections) (take self.settings.num_capture_channels self.channels) }
     {
         let count = self.settings.num_capture_channels;
         let sections = self.settings.num_sections as u32;
@@ -125,9 +125,9 @@ impl SignalDependentErleEstimator {
     }
 
     // Whether number 20 lets the state pass.
-    #[tactic(auto, unfolding(crate::specs::SignalDependent::stateOk))]
+    #[tactic(auto, unfolding(crate::specs::SignalDependent::state_ok))]
     fn ok(self) -> bool
-        ensures { result ≡ stateOk self }
+        ensures { result ≡ state_ok self }
     {
         let held = self.section_boundaries_blocks;
         if settings_pass(self.settings, &held) {
@@ -138,9 +138,9 @@ impl SignalDependentErleEstimator {
     }
 
     // Every record as after a start. 20 is turned away.
-    #[tactic(auto, unfolding(crate::specs::SignalDependent::resetAnswer, crate::specs::SignalDependent::stateRefusal))]
+    #[tactic(auto, unfolding(crate::specs::SignalDependent::reset_answer, crate::specs::SignalDependent::state_refusal))]
     pub fn reset(self) -> SignalDependentAnswer
-        ensures { result ≡ resetAnswer self }
+        ensures { result ≡ reset_answer self }
     {
         if self.ok() {
             SignalDependentAnswer {
@@ -219,7 +219,7 @@ impl SignalDependentErleEstimator {
         average_compensated: &[f32],
         converged_filters: &[bool],
     ) -> SignalDependentAnswer
-        ensures { result ≡ updateAnswer self (record { channels = num_capture_channels; ring = ring; spectra = spectra.now; counts = response_blocks.now; responses = responses.now; render = x2.now; capture = y2.now; residual = e2.now; converged = converged_filters.now }) average.now average_compensated.now }
+        ensures { result ≡ update_answer self (record { channels = num_capture_channels; ring = ring; spectra = spectra.now; counts = response_blocks.now; responses = responses.now; render = x2.now; capture = y2.now; residual = e2.now; converged = converged_filters.now }) average.now average_compensated.now }
     {
         let settings = self.settings;
         let refused = update_refusal(

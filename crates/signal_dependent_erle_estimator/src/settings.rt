@@ -1,6 +1,6 @@
 // The settings of the signal-dependent estimator.
 ghost use Rattle.std.specs.Prelude.{◌≡◌};
-ghost use Rattle.signal_dependent_erle_estimator.specs.SignalDependent.{settingsRefusal, refusedSettings};
+ghost use Rattle.signal_dependent_erle_estimator.specs.SignalDependent.{settings_refusal, refused_settings};
 
 use aec3_common::settings::sectioned_settings_refusal;
 use correction_factors::ErleLimits;
@@ -18,9 +18,9 @@ pub struct SignalDependentSettings {
 }
 
 // Settings without a channel, which 20 turns away.
-#[tactic(auto, unfolding(crate::specs::SignalDependent::refusedSettings, aec3_common::specs::Binary32::zero32))]
+#[tactic(auto, unfolding(crate::specs::SignalDependent::refused_settings, aec3_common::specs::Binary32::zero32))]
 pub fn refused_settings() -> SignalDependentSettings
-    ensures { result ≡ refusedSettings }
+    ensures { result ≡ refused_settings }
 {
     SignalDependentSettings {
         min: 0.0,
@@ -36,9 +36,9 @@ pub fn refused_settings() -> SignalDependentSettings
 
 impl SignalDependentSettings {
     // The first of 1, 2 and 3 that the settings break, or 0.
-    #[tactic(auto, unfolding(crate::specs::SignalDependent::settingsRefusal))]
+    #[tactic(auto, unfolding(crate::specs::SignalDependent::settings_refusal))]
     pub fn refusal(self) -> u32
-        ensures { result ≡ settingsRefusal self }
+        ensures { result ≡ settings_refusal self }
     {
         sectioned_settings_refusal(
             self.min,

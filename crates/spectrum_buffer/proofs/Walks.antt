@@ -7,16 +7,16 @@ use native.Mathlib.Omega.{arith}
 use borrow.Author.Tests.{le-ltb, ltb-true, ltb-false}
 use lib.Dec.{ltb}
 use lib.IntN.{pos}
-use Rattle.spectrum_buffer.specs.Ring.{nextPlace, offsetPlace}
+use Rattle.spectrum_buffer.specs.Ring.{next_place, offset_place}
 
 -- a number of places on: the sum's remainder
-pub places-on : (size index k : ℕ) → offsetPlace size index (pos k) ≡ (index + k) % size
-unfolding offsetPlace
+pub places-on : (size index k : ℕ) → offset_place size index (pos k) ≡ (index + k) % size
+unfolding offset_place
 places-on size index k = simp (le-ltb ((index + k) % size) 0 (omega arith))
 
 -- one place on, too
-pub place-on : (size index : ℕ) → index < size → nextPlace size index ≡ (index + 1) % size
-unfolding nextPlace
+pub place-on : (size index : ℕ) → index < size → next_place size index ≡ (index + 1) % size
+unfolding next_place
 place-on size index h = go (ltb (index + 1) size) refl
   where
     go : (t : Bool) → ltb (index + 1) size ≡ t → cond t (index + 1) 0 ≡ (index + 1) % size

@@ -3,66 +3,66 @@ use Rattle.std.specs.Prelude.{Bool, cond, List, [], ◌∷◌, ℕ, ◌+◌, leb
 use Rattle.std.specs.Int.Signed.{lt_z, rem_z}
 use Rattle.spectrum_buffer.specs.declared.Place.{Place}
 use Rattle.spectrum_buffer.specs.declared.Place.TheVariants.{At, Refused}
-use Rattle.aec3_common.specs.Refusal.{fromTo, unless, accepted, badRing, badPlace, badOffset}
+use Rattle.aec3_common.specs.Refusal.{from_to, unless, accepted, bad_ring, bad_place, bad_offset}
 
 -- the most slots that a ring has
-abbrev pub maxSlots : ℕ
-maxSlots = 32
+abbrev pub max_slots : ℕ
+max_slots = 32
 
 -- the next place; after the last it is 0
-unfoldable pub nextPlace : ℕ → ℕ → ℕ
-nextPlace size index = cond (ltb (index + 1) size) (index + 1) 0
+unfoldable pub next_place : ℕ → ℕ → ℕ
+next_place size index = cond (ltb (index + 1) size) (index + 1) 0
 
 -- a negative remainder gains the ring size
-abbrev pub nonNegative : ℕ → ℤ → ℤ
-nonNegative size r = cond (lt_z r (pos 0)) (r +ℤ pos size) r
+abbrev pub non_negative : ℕ → ℤ → ℤ
+non_negative size r = cond (lt_z r (pos 0)) (r +ℤ pos size) r
 
 -- the place at an offset: the remainder of the sum, which takes the sign of the sum, made non-negative
-unfoldable pub offsetPlace : ℕ → ℕ → ℤ → ℕ
-offsetPlace size index offset = nat_abs (nonNegative size (rem_z (pos index +ℤ offset) (pos size)))
+unfoldable pub offset_place : ℕ → ℕ → ℤ → ℕ
+offset_place size index offset = nat_abs (non_negative size (rem_z (pos index +ℤ offset) (pos size)))
 
 -- number 4, of the slots alone
-abbrev pub slotsOk : ℕ → Bool
-slotsOk size = fromTo 1 maxSlots size
+abbrev pub slots_ok : ℕ → Bool
+slots_ok size = from_to 1 max_slots size
 
 -- number 9: a place not below the slots
-abbrev pub placeOk : ℕ → ℕ → Bool
-placeOk size index = ltb index size
+abbrev pub place_ok : ℕ → ℕ → Bool
+place_ok size index = ltb index size
 
 -- the largest size of an offset: the ring's
-abbrev pub maxOffset : ℕ → ℕ
-maxOffset size = size
+abbrev pub max_offset : ℕ → ℕ
+max_offset size = size
 
 -- number 8: an offset larger in size than the ring
-abbrev pub offsetOk : ℕ → ℤ → Bool
-offsetOk size offset = leb (nat_abs offset) (maxOffset size)
+abbrev pub offset_ok : ℕ → ℤ → Bool
+offset_ok size offset = leb (nat_abs offset) (max_offset size)
 
 -- the first of 4 and 9, and then what the later tests say
-abbrev pub placeRefusal : ℕ → ℕ → ℕ → ℕ
-placeRefusal size index later = unless (slotsOk size) badRing (unless (placeOk size index) badPlace later)
+abbrev pub place_refusal : ℕ → ℕ → ℕ → ℕ
+place_refusal size index later = unless (slots_ok size) bad_ring (unless (place_ok size index) bad_place later)
 
 -- 4, 9; and 4, 9, 8
-unfoldable pub nextRefusal : ℕ → ℕ → ℕ
-nextRefusal size index = placeRefusal size index accepted
+unfoldable pub next_refusal : ℕ → ℕ → ℕ
+next_refusal size index = place_refusal size index accepted
 
-unfoldable pub offsetRefusal : ℕ → ℕ → ℤ → ℕ
-offsetRefusal size index offset = placeRefusal size index (unless (offsetOk size offset) badOffset accepted)
+unfoldable pub offset_refusal : ℕ → ℕ → ℤ → ℕ
+offset_refusal size index offset = place_refusal size index (unless (offset_ok size offset) bad_offset accepted)
 
 -- the case of an answer: number 0 has the place, any other number is a refusal
-abbrev pub placeCase : ℕ → ℕ → Place
-placeCase number place = cond (eqb number accepted) (At place) (Refused number)
+abbrev pub place_case : ℕ → ℕ → Place
+place_case number place = cond (eqb number accepted) (At place) (Refused number)
 
-unfoldable pub nextAnswer : ℕ → ℕ → Place
-nextAnswer size index = placeCase (nextRefusal size index) (nextPlace size index)
+unfoldable pub next_answer : ℕ → ℕ → Place
+next_answer size index = place_case (next_refusal size index) (next_place size index)
 
-unfoldable pub offsetAnswer : ℕ → ℕ → ℤ → Place
-offsetAnswer size index offset = placeCase (offsetRefusal size index offset) (offsetPlace size index offset)
+unfoldable pub offset_answer : ℕ → ℕ → ℤ → Place
+offset_answer size index offset = place_case (offset_refusal size index offset) (offset_place size index offset)
 
 -- and back: the number and the place of each case
-abbrev pub placeNumber : Place → ℕ
-placeNumber (At p) = accepted
-placeNumber (Refused n) = n
+abbrev pub place_number : Place → ℕ
+place_number (At p) = accepted
+place_number (Refused n) = n
 
-abbrev pub placeValue : Place → List ℕ
-placeValue (At p) = p ∷ []
-placeValue (Refused n) = []
+abbrev pub place_value : Place → List ℕ
+place_value (At p) = p ∷ []
+place_value (Refused n) = []

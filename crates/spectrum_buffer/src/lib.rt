@@ -4,7 +4,7 @@
 pub mod places;
 
 ghost use Rattle.std.specs.Prelude.{◌≡◌, nat_abs};
-ghost use Rattle.spectrum_buffer.specs.Ring.{slotsOk, nextRefusal, offsetRefusal, nextAnswer, offsetAnswer};
+ghost use Rattle.spectrum_buffer.specs.Ring.{slots_ok, next_refusal, offset_refusal, next_answer, offset_answer};
 
 use aec3_common::refusal::{ACCEPTED, BAD_OFFSET, BAD_PLACE, BAD_RING};
 use places::{next_place, offset_place};
@@ -18,9 +18,9 @@ pub enum Place {
 }
 
 // The place after index; 4 and 9 are turned away.
-#[tactic(auto, unfolding(crate::specs::Ring::nextAnswer))]
+#[tactic(auto, unfolding(crate::specs::Ring::next_answer))]
 pub fn inc_index(size: usize, index: usize) -> Place
-    ensures { result ≡ nextAnswer size index }
+    ensures { result ≡ next_answer size index }
 {
     let refused = next_refusal(size, index);
     if refused == ACCEPTED {
@@ -32,7 +32,7 @@ pub fn inc_index(size: usize, index: usize) -> Place
 
 // The place at an offset from index; 4, 9 and 8 are turned away.
 pub fn offset_index(size: usize, index: usize, offset: isize) -> Place
-    ensures { result ≡ offsetAnswer size index offset }
+    ensures { result ≡ offset_answer size index offset }
 {
     let refused = offset_refusal(size, index, offset);
     if refused == ACCEPTED {
@@ -44,14 +44,14 @@ pub fn offset_index(size: usize, index: usize, offset: isize) -> Place
 
 // Number 4, of the slots alone.
 pub fn slots_ok(size: usize) -> bool
-    ensures { result ≡ slotsOk size }
+    ensures { result ≡ slots_ok size }
 {
     (1 <= size) & (size <= MAX_SLOTS)
 }
 
-#[tactic(auto, unfolding(crate::specs::Ring::nextRefusal))]
+#[tactic(auto, unfolding(crate::specs::Ring::next_refusal))]
 fn next_refusal(size: usize, index: usize) -> u32
-    ensures { result ≡ nextRefusal size index }
+    ensures { result ≡ next_refusal size index }
 {
     if slots_ok(size) {
         if index < size { ACCEPTED } else { BAD_PLACE }
@@ -60,9 +60,9 @@ fn next_refusal(size: usize, index: usize) -> u32
     }
 }
 
-#[tactic(auto, unfolding(crate::specs::Ring::nextRefusal, crate::specs::Ring::offsetRefusal))]
+#[tactic(auto, unfolding(crate::specs::Ring::next_refusal, crate::specs::Ring::offset_refusal))]
 fn offset_refusal(size: usize, index: usize, offset: isize) -> u32
-    ensures { result ≡ offsetRefusal size index offset }
+    ensures { result ≡ offset_refusal size index offset }
 {
     let refused = next_refusal(size, index);
     if refused == ACCEPTED {

@@ -1,12 +1,12 @@
 // Places in a ring, for callers that have judged their call: nothing is turned away here.
 ghost use Rattle.std.specs.Prelude.{◌≡◌, ◌<◌, ◌^◌, pos, nat_abs, ◌+ℤ◌};
 ghost use Rattle.std.specs.Int.Signed.{rem_z};
-ghost use Rattle.spectrum_buffer.specs.Ring.{nextPlace, nonNegative, offsetPlace};
+ghost use Rattle.spectrum_buffer.specs.Ring.{next_place, non_negative, offset_place};
 
 // The place after index.
-#[tactic(auto, unfolding(crate::specs::Ring::nextPlace))]
+#[tactic(auto, unfolding(crate::specs::Ring::next_place))]
 pub fn next_place(size: usize, index: usize) -> usize
-    ensures { result ≡ nextPlace size index }
+    ensures { result ≡ next_place size index }
 {
     if index < size {
         if index + 1 < size { index + 1 } else { 0 }
@@ -16,11 +16,11 @@ pub fn next_place(size: usize, index: usize) -> usize
 }
 
 // The place at an offset from index. The bounds are those within which no sum here wraps.
-#[tactic(auto, unfolding(crate::specs::Ring::offsetPlace))]
+#[tactic(auto, unfolding(crate::specs::Ring::offset_place))]
 pub fn offset_place(size: usize, index: usize, offset: isize) -> usize
     requires index_lt_size { (index < size) × (size < 2 ^ 62) }
     requires offset_bound { nat_abs offset < 2 ^ 62 }
-    ensures { result ≡ offsetPlace size index offset }
+    ensures { result ≡ offset_place size index offset }
 {
     non_negative(remainder(sum(index, offset), size), size)
 }
@@ -42,7 +42,7 @@ fn remainder(x: isize, size: usize) -> isize
 
 fn non_negative(x: isize, size: usize) -> usize
     requires { (nat_abs x < size) × (size < 2 ^ 62) }
-    ensures { result ≡ nat_abs (nonNegative size x) }
+    ensures { result ≡ nat_abs (non_negative size x) }
 {
     if x < 0 {
         (x + size as isize) as usize

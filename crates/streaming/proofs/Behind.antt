@@ -1,5 +1,5 @@
 -- Bytes that are read behind those that are held.
-use Rattle.std.proofs.Common.{◌≡◌, ℕ, ◌+◌, ◌-◌, ◌≤◌, ◌<◌, List, [], ◌++◌, length, take, drop, refl, sym, ap, ◌∙◌, arith, Bool, true, false, append-nil, add-zero, zero-add}
+use Rattle.std.proofs.Common.{◌≡◌, ℕ, ◌+◌, ◌-◌, ◌≤◌, ◌<◌, List, [], ◌++◌, length, take, drop, sym, ap, ◌∙◌, arith, false, add-zero, zero-add}
 use Rattle.std.proofs.Math.Seq.{paste, take-paste, take-append-add}
 use Rattle.std.proofs.lemmas.List.{take-append-le}
 use Rattle.std.specs.Prelude.{Option, Some, None, nat_eq}
@@ -9,7 +9,6 @@ use borrow.Author.Tests.{eqb-true}
 use borrow.Rule.Slice.PartMut.{put_mid, post_of}
 use lib.ListN.{length-append, length-drop}
 use lib.Seq.{length-take-le}
-use Rattle.streaming.specs.declared.reading.Held.{Held}
 use Rattle.streaming.specs.Feeding.{ReadOn}
 
 -- what was kept lost nothing

@@ -1,5 +1,5 @@
 -- What the loop keeps: the text that went out, and what is ahead of the bytes that are held and of those that are yet to be read, are the text of all.
-use Rattle.std.proofs.Common.{◌≡◌, ℕ, ◌+◌, ◌-◌, ◌≤◌, ◌<◌, List, [], ◌++◌, length, take, drop, refl, sym, ap, ◌∙◌, arith, Bool, true, false, append_assoc, append-nil}
+use Rattle.std.proofs.Common.{◌≡◌, ℕ, ◌+◌, ◌-◌, ◌≤◌, List, [], ◌++◌, length, take, drop, refl, sym, ap, ◌∙◌, arith, Bool, true, false, append_assoc, append-nil}
 use mathlib.Core.Bool.{false≢true}
 use Rattle.std.specs.Prelude.{Option, Some, None, IfSome}
 use Rattle.std.specs.Io.KnownBytes.{Appends, Consumes, IsAtEnd, Keeps}
@@ -7,28 +7,28 @@ use Rattle.std.proofs.KnownBytes.{Appends-trans, Appends-nil}
 use lib.ListN.{length-drop}
 use lib.Seq.{length-take-le, drop-drop}
 use Rattle.std.proofs.lemmas.List.{drop-take}
-use Rattle.encoding.proofs.Writing.{Wrote, wrote-front}
+use Rattle.encoding.proofs.Writing.{wrote-front}
 use Rattle.streaming.specs.declared.reading.Held.{Held}
 use Rattle.streaming.specs.declared.transducer.Fed.{Fed}
 use Rattle.streaming.specs.declared.transducer.Stop.{Stop}
 use Rattle.streaming.specs.declared.transducer.Stop.TheVariants.{WantsBytes, WantsRoom, Done}
-use Rattle.streaming.specs.Feeding.{textLeft, Feeds, ReadOn, Begun}
+use Rattle.streaming.specs.Feeding.{text_left, Feeds, ReadOn, Begun}
 
 -- Of a reader whose bytes are known: those that were taken and those that are left, and the text that a writer got. It begins the text of what was
 -- taken, whatever follows; if the input has ended, nothing does.
-pub record Piped (readerNow writerThen writerNow : Option (List ℕ)) (whole ahead : List ℕ → List ℕ) (held : List ℕ) (ended : Bool) (bytes : List ℕ) : Type 0 where
+pub record Piped (reader_now writer_then writer_now : Option (List ℕ)) (whole ahead : List ℕ → List ℕ) (held : List ℕ) (ended : Bool) (bytes : List ℕ) : Type 0 where
   pub taken : List ℕ
   pub left : List ℕ
   pub split : bytes ≡ taken ++ left
-  pub reads : readerNow ≡ Some left
+  pub reads : reader_now ≡ Some left
   pub none : ended ≡ true → left ≡ []
   pub text : List ℕ
-  pub writes : Appends writerThen writerNow text
+  pub writes : Appends writer_then writer_now text
   pub same : (more : List ℕ) → (ended ≡ true → more ≡ []) → whole (taken ++ more) ≡ text ++ ahead (held ++ more)
 
-abbrev pub Pipe : (readerThen readerNow writerThen writerNow : Option (List ℕ)) (whole ahead : List ℕ → List ℕ) (held : List ℕ) (ended : Bool) → Type 0
-Pipe readerThen readerNow writerThen writerNow whole ahead held ended =
-    (bytes : List ℕ) → readerThen ≡ Some bytes → Piped readerNow writerThen writerNow whole ahead held ended bytes
+abbrev pub Pipe : (reader_then reader_now writer_then writer_now : Option (List ℕ)) (whole ahead : List ℕ → List ℕ) (held : List ℕ) (ended : Bool) → Type 0
+Pipe reader_then reader_now writer_then writer_now whole ahead held ended =
+    (bytes : List ℕ) → reader_then ≡ Some bytes → Piped reader_now writer_then writer_now whole ahead held ended bytes
 
 -- nothing is read and nothing written yet
 pub pipe-begun : (reader writer : Option (List ℕ)) (whole ahead : List ℕ → List ℕ) → ((s : List ℕ) → ahead s ≡ whole s) → Pipe reader reader writer writer whole ahead [] false
@@ -45,17 +45,17 @@ if-known None P h = tt
 if-known (Some bytes) P h = h bytes refl
 
 module _
-    {readerThen readerNow writerThen writerNow : Option (List ℕ)} (writerNext : Option (List ℕ)) {whole : List ℕ → List ℕ} {held : List ℕ} {ended : Bool}
-    {S : Type 0} {least : ℕ} {ahead : S → List ℕ → List ℕ} {sound : S → Type 0} {before after : S} {table newTable : List ℕ} {r : Fed}
-    (pipe : Pipe readerThen readerNow writerThen writerNow whole (ahead before) held ended)
-    (feeds : Feeds least ahead sound before after held ended table newTable 0 r) (out : Appends writerNow writerNext (take r.at newTable))
+    {reader_then reader_now writer_then writer_now : Option (List ℕ)} (writer_next : Option (List ℕ)) {whole : List ℕ → List ℕ} {held : List ℕ} {ended : Bool}
+    {S : Type 0} {least : ℕ} {ahead : S → List ℕ → List ℕ} {sound : S → Type 0} {before after : S} {table new_table : List ℕ} {r : Fed}
+    (pipe : Pipe reader_then reader_now writer_then writer_now whole (ahead before) held ended)
+    (feeds : Feeds least ahead sound before after held ended table new_table 0 r) (out : Appends writer_now writer_next (take r.at new_table))
   where
     -- what went out is the text
-    out-is : take r.at newTable ≡ feeds.text
+    out-is : take r.at new_table ≡ feeds.text
     out-is = wrote-front {d = table} (record { room = feeds.fits; text = feeds.written; place = feeds.place })
 
     -- the bytes are fed, and the text went out
-    pub fed-piped : Pipe readerThen readerNow writerThen writerNext whole (λ s. textLeft r.stop (ahead after s)) (drop r.used held) ended
+    pub fed-piped : Pipe reader_then reader_now writer_then writer_next whole (λ s. text_left r.stop (ahead after s)) (drop r.used held) ended
     fed-piped bytes is =
         let p = pipe bytes is in
         record {
@@ -65,62 +65,68 @@ module _
           reads = p.reads;
           none = p.none;
           text = p.text ++ feeds.text;
-          writes = Appends-trans writerThen writerNow writerNext p.text feeds.text p.writes (rw out-is at out);
+          writes = Appends-trans writer_then writer_now writer_next p.text feeds.text p.writes (rw out-is at out);
           same = λ more follows.
               p.same more follows ∙ ap (λ (l : List ℕ). p.text ++ l) (feeds.rest more follows)
-              ∙ sym (append_assoc p.text feeds.text (textLeft r.stop (ahead after (drop r.used held ++ more))));
+              ∙ sym (append_assoc p.text feeds.text (text_left r.stop (ahead after (drop r.used held ++ more))));
         }
 
     -- the text is whole
-    pub whole-done : r.stop ≡ Done → IfSome readerThen (λ bytes. Appends writerThen writerNext (whole bytes))
-    unfolding textLeft
+    pub whole-done : r.stop ≡ Done → IfSome reader_then (λ bytes. Appends writer_then writer_next (whole bytes))
+    unfolding text_left
     whole-done done =
-        if-known readerThen _ (λ bytes is.
+        if-known reader_then _ (λ bytes is.
         let p = fed-piped bytes is in
-        let all : whole bytes ≡ p.text = ap whole p.split ∙ p.same p.left p.none ∙ ap (λ (stop : Stop). p.text ++ textLeft stop (ahead after (drop r.used held ++ p.left))) done ∙ append-nil p.text in
+        let all : whole bytes ≡ p.text = ap whole p.split ∙ p.same p.left p.none ∙ ap (λ (stop : Stop). p.text ++ text_left stop (ahead after (drop r.used held ++ p.left))) done ∙ append-nil p.text in
         rw all p.writes)
 
-    pub whole-ended : r.stop ≡ WantsBytes → ended ≡ true → IfSome readerThen (λ bytes. Appends writerThen writerNext (whole bytes))
-    unfolding textLeft
+    pub whole-ended : r.stop ≡ WantsBytes → ended ≡ true → IfSome reader_then (λ bytes. Appends writer_then writer_next (whole bytes))
+    unfolding text_left
     whole-ended stop end =
-        if-known readerThen _ (λ bytes is.
+        if-known reader_then _ (λ bytes is.
         let p = fed-piped bytes is in
         let nothing = feeds.all end stop in
         let all : whole bytes ≡ p.text =
-        ap whole p.split ∙ p.same p.left p.none ∙ (λ i. p.text ++ textLeft (stop i) (ahead after (drop r.used held ++ p.none end i)))
+        ap whole p.split ∙ p.same p.left p.none ∙ (λ i. p.text ++ text_left (stop i) (ahead after (drop r.used held ++ p.none end i)))
         ∙ ap (λ (s : List ℕ). p.text ++ ahead after s) (append-nil (drop r.used held)) ∙ ap (λ (l : List ℕ). p.text ++ l) nothing ∙ append-nil p.text in
         rw all p.writes)
 
     -- more room is wanted
-    pub pipe-on : {now : List ℕ} → r.stop ≡ WantsRoom → now ≡ drop r.used held → Pipe readerThen readerNow writerThen writerNext whole (ahead after) now ended
-    unfolding textLeft
+    pub pipe-on : {now : List ℕ} → r.stop ≡ WantsRoom → now ≡ drop r.used held → Pipe reader_then reader_now writer_then writer_next whole (ahead after) now ended
+    unfolding text_left
     pipe-on stop is-now bytes is =
         let p = fed-piped bytes is in
         record {
-          taken = p.taken; left = p.left; split = p.split; reads = p.reads; none = p.none; text = p.text; writes = p.writes;
-          same = λ more follows. p.same more follows ∙ (λ i. p.text ++ textLeft (stop i) (ahead after (sym is-now i ++ more)));
+          taken = p.taken;
+          left = p.left;
+          split = p.split;
+          reads = p.reads;
+          none = p.none;
+          text = p.text;
+          writes = p.writes;
+          same = λ more follows. p.same more follows ∙ (λ i. p.text ++ text_left (stop i) (ahead after (sym is-now i ++ more)));
         }
 
     -- more bytes are wanted, and read
     pub pipe-read :
-        {now newInput : List ℕ} {readerNext : Option (List ℕ)} {h : Held} → r.stop ≡ WantsBytes → ended ≡ false → now ≡ drop r.used held → ReadOn readerNow readerNext now newInput h
-        → Pipe readerThen readerNext writerThen writerNext whole (ahead after) (take h.to newInput) h.ended
-    unfolding textLeft
-    pipe-read {now} {newInput} {readerNext} {h} stop goes is-now read bytes is =
+        {now new_input : List ℕ} {reader_next : Option (List ℕ)} {h : Held} → r.stop ≡ WantsBytes → ended ≡ false → now ≡ drop r.used held → ReadOn reader_now reader_next now new_input h
+        → Pipe reader_then reader_next writer_then writer_next whole (ahead after) (take h.to new_input) h.ended
+    unfolding text_left
+    pipe-read {now} {new_input} {reader_next} {h} stop goes is-now read bytes is =
         let p = fed-piped bytes is in
-        go p readerNext (rw p.reads at read.taken) read.end
+        go p reader_next (rw p.reads at read.taken) read.end
       where
         -- the text that is ahead of the bytes that are held now
         ahead-now :
-            (more : List ℕ) → textLeft r.stop (ahead after (drop r.used held ++ (read.got ++ more))) ≡ ahead after (take h.to newInput ++ more)
+            (more : List ℕ) → text_left r.stop (ahead after (drop r.used held ++ (read.got ++ more))) ≡ ahead after (take h.to new_input ++ more)
         ahead-now more =
-            (λ i. textLeft (stop i) (ahead after (sym is-now i ++ (read.got ++ more))))
+            (λ i. text_left (stop i) (ahead after (sym is-now i ++ (read.got ++ more))))
             ∙ ap (ahead after) (sym (append_assoc now read.got more) ∙ ap (λ (l : List ℕ). l ++ more) (sym read.now))
 
         go :
-            (p : Piped readerNow writerThen writerNext whole (λ s. textLeft r.stop (ahead after s)) (drop r.used held) ended bytes)
+            (p : Piped reader_now writer_then writer_next whole (λ s. text_left r.stop (ahead after s)) (drop r.used held) ended bytes)
             (next : Option (List ℕ)) → Consumes (Some p.left) next read.got → (h.ended ≡ true → IsAtEnd next)
-            → Piped next writerThen writerNext whole (ahead after) (take h.to newInput) h.ended bytes
+            → Piped next writer_then writer_next whole (ahead after) (take h.to new_input) h.ended bytes
         go p None consumed end = absurd consumed
         go p (Some rest) consumed end =
             record {
@@ -138,18 +144,18 @@ module _
             }
 
     -- a read failed: what went out begins the text, whatever follows what was read
-    pub begun-failed : r.stop ≡ WantsBytes → ended ≡ false → (readerNext : Option (List ℕ)) → Keeps readerNow readerNext → IfSome readerThen (Begun readerNext writerThen writerNext whole)
-    begun-failed stop goes readerNext keeps =
-        if-known readerThen _ (λ bytes is.
+    pub begun-failed : r.stop ≡ WantsBytes → ended ≡ false → (reader_next : Option (List ℕ)) → Keeps reader_now reader_next → IfSome reader_then (Begun reader_next writer_then writer_next whole)
+    begun-failed stop goes reader_next keeps =
+        if-known reader_then _ (λ bytes is.
         let p = fed-piped bytes is in
         record {
           taken = p.taken;
           left = p.left;
           split = p.split;
-          reads = kept-some readerNext p.left (rw p.reads at keeps);
+          reads = kept-some reader_next p.left (rw p.reads at keeps);
           text = p.text;
           writes = p.writes;
-          begins = λ more. (textLeft r.stop (ahead after (drop r.used held ++ more)), p.same more (λ e. absurd (false≢true (sym goes ∙ e))));
+          begins = λ more. (text_left r.stop (ahead after (drop r.used held ++ more)), p.same more (λ e. absurd (false≢true (sym goes ∙ e))));
         })
 
 -- what is left of a part, once its first bytes are done with

@@ -1,19 +1,11 @@
 // Bytes that are held between readings, and text that goes out.
 ghost use Rattle.std.specs.Prelude.{◌≡◌, ◌≢◌, ◌-◌, ◌≤◌, ◌<◌, length, take, drop, true, IfOk, IfErr, OnErr};
 ghost use Rattle.std.specs.Io.KnownBytes.{Appends, Keeps};
-ghost use Rattle.streaming.specs.declared.reading.Failure.TheVariants.{NoRoom};
+ghost use Rattle.streaming.specs.declared.failure.Failure.TheVariants.{NoRoom};
 ghost use Rattle.streaming.specs.Feeding.{ReadOn};
 
+use crate::failure::Failure;
 use std::io::{ErrorKind, Read, Write};
-
-// What ends a run before its time: a read or a write failed; a table has no room for what has to be held in one; or the input did not end.
-#[derive(Clone, Copy)]
-pub enum Failure {
-    Read,
-    Write,
-    NoRoom,
-    Endless,
-}
 
 // How many bytes are held at the front of a table, and whether the input ends with them.
 #[derive(Clone, Copy)]
@@ -24,7 +16,12 @@ pub struct Held {
 
 // Moves the bytes from `from` to `to` to the front, and reads more behind them: those that are held then are those before, followed by those
 // that were read. If there are no more, the input has ended.
-pub fn read_on<R: Read>(reader: &mut R, input: &mut [u8], from: usize, to: usize) -> Result<Held, Failure>
+pub fn read_on<R: Read>(
+    reader: &mut R,
+    input: &mut [u8],
+    from: usize,
+    to: usize,
+) -> Result<Held, Failure>
     requires ordered { from ≤ to }
     requires within { to ≤ length input.old }
     ensures held { IfOk result (λ h. ReadOn (R.remaining reader.old) (R.remaining reader.new) (take (to - from) (drop from input.old)) input.new h) }

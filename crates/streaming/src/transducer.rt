@@ -1,10 +1,11 @@
 // What makes a text of the bytes that it is fed, and the loop that feeds it.
 ghost use Rattle.std.specs.Prelude.{◌≡◌, ◌≢◌, ℕ, ◌≤◌, List, length, IfSome, IfErr, OnOk};
 ghost use Rattle.std.specs.Io.KnownBytes.{Appends};
-ghost use Rattle.streaming.specs.declared.reading.Failure.TheVariants.{NoRoom, Read as Failure·Read};
-ghost use Rattle.streaming.specs.Feeding.{mostHeld, Feeds, Begun};
+ghost use Rattle.streaming.specs.declared.failure.Failure.TheVariants.{NoRoom, Read as Failure·Read};
+ghost use Rattle.streaming.specs.Feeding.{most_held, Feeds, Begun};
 
-use crate::reading::{Failure, read_on, write_out};
+use crate::failure::Failure;
+use crate::reading::{read_on, write_out};
 use std::io::{Read, Write};
 
 // Why feeding stopped: more bytes are wanted, or more room; or nothing is to be written any more, whatever follows.
@@ -55,7 +56,7 @@ pub fn run<T: Transducer + Drop, R: Read, W: Write>(
 ) -> Result<(), Failure>
     ensures whole { OnOk result (IfSome (R.remaining reader.old) (λ bytes. Appends (W.contents writer.old) (W.contents writer.new) (T.whole bytes))) }
     ensures begun { IfErr result (λ e. e ≡ Failure·Read → IfSome (R.remaining reader.old) (Begun (R.remaining reader.new) (W.contents writer.old) (W.contents writer.new) T.whole)) }
-    ensures room { mostHeld ≤ length input.old → T.least ≤ length out.old → IfErr result (λ e. e ≢ NoRoom) }
+    ensures room { most_held ≤ length input.old → T.least ≤ length out.old → IfErr result (λ e. e ≢ NoRoom) }
 {
     let mut job = T::start();
     let mut from = 0;

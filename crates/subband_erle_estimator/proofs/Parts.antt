@@ -5,11 +5,11 @@ use Prim.Native.Nat.{ℕ, ◌<◌}
 use lib.IntN.{pos}
 use lib.Ieee.{nan}
 use lib.ListN.{length}
-use Rattle.aec3_common.proofs.Tables.{length-tab, getD-tab, tab-same}
+use Rattle.aec3_common.proofs.Tables.{length-tab, get_or-tab, tab-same}
 use Rattle.erle_bands.specs.Band.{Sums, Streams, Onset}
 use Rattle.erle_bands.proofs.Bands.{bands-stay}
 use Rattle.subband_erle_estimator.specs.declared.channel.SubbandChannel.{SubbandChannel}
-use Rattle.subband_erle_estimator.specs.Channel.{sumsAt, streamsAt, onsetAt, channelFrom}
+use Rattle.subband_erle_estimator.specs.Channel.{sums_at, streams_at, onset_at, channel_from}
 
 -- each array of a record has 65 entries
 pub record Long (r : SubbandChannel) : Type 0 where
@@ -25,8 +25,8 @@ pub record Long (r : SubbandChannel) : Type 0 where
 
 -- what a record that is put together holds in a band
 module _ (points : ℕ) (sums : ℕ → Sums) (streams : ℕ → Streams) (onset : ℕ → Onset) where
-  pub long-from : Long (channelFrom points sums streams onset)
-  unfolding channelFrom
+  pub long-from : Long (channel_from points sums streams onset)
+  unfolding channel_from
   long-from =
       record {
         capture = length-tab 65 _;
@@ -41,38 +41,38 @@ module _ (points : ℕ) (sums : ℕ → Sums) (streams : ℕ → Streams) (onset
       }
 
   module _ (k : ℕ) (h : k < 65) where
-    pub sums-from : sumsAt (channelFrom points sums streams onset) k ≡ sums k
-    unfolding channelFrom
+    pub sums-from : sums_at (channel_from points sums streams onset) k ≡ sums k
+    unfolding channel_from
     sums-from =
         λ i.
         record {
-          capture = getD-tab 65 (λ j. (sums j).capture) k nan h i;
-          residual = getD-tab 65 (λ j. (sums j).residual) k nan h i;
-          low = getD-tab 65 (λ j. (sums j).low) k false h i;
+          capture = get_or-tab 65 (λ j. (sums j).capture) k nan h i;
+          residual = get_or-tab 65 (λ j. (sums j).residual) k nan h i;
+          low = get_or-tab 65 (λ j. (sums j).low) k false h i;
         }
 
-    pub streams-from : streamsAt (channelFrom points sums streams onset) k ≡ streams k
-    unfolding channelFrom
+    pub streams-from : streams_at (channel_from points sums streams onset) k ≡ streams k
+    unfolding channel_from
     streams-from =
-        λ i. record { plain = getD-tab 65 (λ j. (streams j).plain) k nan h i; uncapped = getD-tab 65 (λ j. (streams j).uncapped) k nan h i }
+        λ i. record { plain = get_or-tab 65 (λ j. (streams j).plain) k nan h i; uncapped = get_or-tab 65 (λ j. (streams j).uncapped) k nan h i }
 
-    pub onset-from : onsetAt (channelFrom points sums streams onset) k ≡ onset k
-    unfolding channelFrom
+    pub onset-from : onset_at (channel_from points sums streams onset) k ≡ onset k
+    unfolding channel_from
     onset-from =
         λ i.
         record {
-          compensated = getD-tab 65 (λ j. (onset j).compensated) k nan h i;
-          onset = getD-tab 65 (λ j. (onset j).onset) k nan h i;
-          waits = getD-tab 65 (λ j. (onset j).waits) k false h i;
-          hold = getD-tab 65 (λ j. (onset j).hold) k (pos 0) h i;
+          compensated = get_or-tab 65 (λ j. (onset j).compensated) k nan h i;
+          onset = get_or-tab 65 (λ j. (onset j).onset) k nan h i;
+          waits = get_or-tab 65 (λ j. (onset j).waits) k false h i;
+          hold = get_or-tab 65 (λ j. (onset j).hold) k (pos 0) h i;
         }
 
 -- records with the same parts are the same
 pub same_parts :
     {n m : ℕ} {f g : ℕ → Sums} {s t : ℕ → Streams} {o p : ℕ → Onset}
     → n ≡ m → ((k : ℕ) → k < 65 → f k ≡ g k) → ((k : ℕ) → k < 65 → s k ≡ t k) → ((k : ℕ) → k < 65 → o k ≡ p k)
-    → channelFrom n f s o ≡ channelFrom m g t p
-unfolding channelFrom
+    → channel_from n f s o ≡ channel_from m g t p
+unfolding channel_from
 same_parts {f = f} {g = g} {s = s} {t = t} {o = o} {p = p} points sums streams onset =
     λ i.
     record {
@@ -90,8 +90,8 @@ same_parts {f = f} {g = g} {s = s} {t = t} {o = o} {p = p} points sums streams o
     }
 
 -- a record is put together from its own parts
-pub own-parts : (c : SubbandChannel) → Long c → c ≡ channelFrom c.num_points (sumsAt c) (streamsAt c) (onsetAt c)
-unfolding channelFrom
+pub own-parts : (c : SubbandChannel) → Long c → c ≡ channel_from c.num_points (sums_at c) (streams_at c) (onset_at c)
+unfolding channel_from
 own-parts c l =
     λ i.
     record {

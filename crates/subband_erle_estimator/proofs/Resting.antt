@@ -8,7 +8,7 @@ use lib.Dec.{eqb}
 use lib.Ieee.{Float, le}
 use lib.Ieee.Bits.{is_true}
 use lib.ListN.{length, get_or}
-use Rattle.aec3_common.specs.Binary32.{numberFrom}
+use Rattle.aec3_common.specs.Binary32.{number_from}
 use Rattle.aec3_common.specs.Calls.{Call, update, reset, run_by}
 use Rattle.aec3_common.specs.Lists.{every}
 use Rattle.aec3_common.specs.Refusal.{accepted}
@@ -19,14 +19,14 @@ use Rattle.erle_bands.specs.Band.{Streams}
 use Rattle.erle_bands.proofs.Rest.{resting-start}
 use Rattle.subband_erle_estimator.specs.declared.settings.SubbandSettings.{SubbandSettings}
 use Rattle.subband_erle_estimator.specs.declared.SubbandErleEstimator.{SubbandErleEstimator}
-use Rattle.subband_erle_estimator.specs.Subband.{startAnswer, resetAnswer, updateAnswer, channelAt, block_of}
-use Rattle.subband_erle_estimator.specs.Resting.{answer, run, acceptedOf, unconverged, AtRest, RangeAndRest}
+use Rattle.subband_erle_estimator.specs.Subband.{start_answer, reset_answer, update_answer, channel_at, block_of}
+use Rattle.subband_erle_estimator.specs.Resting.{answer, run, accepted_of, unconverged, AtRest, RangeAndRest}
 use Rattle.subband_erle_estimator.proofs.Quiet.{ChannelResting, after-resting, rest-compensated, rest-waits}
 use Rattle.subband_erle_estimator.proofs.Calls.{InBinary32, SettingsOk, settings-ok, Kept, start-answer-kept, run-kept, updated-channel, updated-kept}
 
 -- a refused call passes on the state that it got
 refused-stays : (s : SubbandErleEstimator) (c : Call) → eqb (answer s c).refused accepted ≡ false → (answer s c).state ≡ s
-unfolding answer updateAnswer resetAnswer
+unfolding answer update_answer reset_answer
 refused-stays s (update channels converged render capture residual) e = rw e
 refused-stays s reset e = rw e
 
@@ -35,7 +35,7 @@ refused-stays s reset e = rw e
 -- with r updates to go channel ch rests, beside what it showed before
 record StateResting (g : SubbandSettings) (ch r : ℕ) (before s : SubbandErleEstimator) : Type 0 where
   kept : Kept g s
-  channel : ChannelResting r (channelAt before ch) (channelAt s ch)
+  channel : ChannelResting r (channel_at before ch) (channel_at s ch)
 
 -- a flag that is given and not set
 flag_off : (flags : List Bool) (ch : ℕ) → get_or flags ch true ≡ false → get_or flags ch false ≡ false
@@ -49,29 +49,29 @@ module _ (g : SubbandSettings) (ok : SettingsOk g) (on : g.onset_detection ≡ t
       {r : ℕ} {before : SubbandErleEstimator} (s : SubbandErleEstimator) (c : Call)
       → (answer s c).refused ≡ accepted → unconverged ch c ≡ true
       → StateResting g ch (suc r) before s → StateResting g ch r before (answer s c).state
-  unfolding answer updateAnswer unconverged
+  unfolding answer update_answer unconverged
   call-resting {r} {before} s (update channels converged render capture residual) e quiet resting =
       let off = flag_off converged ch (not-true (get_or converged ch true) quiet) in
       rw e
       (record {
         kept = updated-kept g ok s channels converged render capture residual resting.kept e;
         channel =
-            subst (ChannelResting r (channelAt before ch)) (sym (updated-channel g ok s converged render capture residual resting.kept ch h))
-            (after-resting g ok.limits (channelAt s ch) (resting.kept.channels ch h) (block_of converged render capture residual ch) on off resting.channel);
+            subst (ChannelResting r (channel_at before ch)) (sym (updated-channel g ok s converged render capture residual resting.kept ch h))
+            (after-resting g ok.limits (channel_at s ch) (resting.kept.channels ch h) (block_of converged render capture residual ch) on off resting.channel);
       })
   call-resting s reset e quiet resting = absurd (false≢true quiet)
 
   -- and so a list of calls whose accepted ones are such updates
   run-resting :
-      (cs : List Call) {before : SubbandErleEstimator} (s : SubbandErleEstimator) → every (unconverged ch) (acceptedOf s cs) ≡ true
-      → StateResting g ch (length (acceptedOf s cs)) before s → StateResting g ch 0 before (run s cs)
-  unfolding acceptedOf run run_by every
+      (cs : List Call) {before : SubbandErleEstimator} (s : SubbandErleEstimator) → every (unconverged ch) (accepted_of s cs) ≡ true
+      → StateResting g ch (length (accepted_of s cs)) before s → StateResting g ch 0 before (run s cs)
+  unfolding accepted_of run run_by every
   run-resting [] s quiet resting = resting
   run-resting (c ∷ cs) {before} s quiet resting =
       go (eqb (answer s c).refused accepted) refl quiet resting (λ still more. run-resting cs (answer s c).state still more)
     where
       others : List Call
-      others = acceptedOf (answer s c).state cs
+      others = accepted_of (answer s c).state cs
 
       Later : Type 0
       Later =
@@ -91,15 +91,15 @@ module _ (g : SubbandSettings) (ok : SettingsOk g) (on : g.onset_detection ≡ t
 
 -- ---- the claim
 
-number-from : {lo hi x : Float} → Between lo hi x → numberFrom lo hi x ≡ true
+number-from : {lo hi x : Float} → Between lo hi x → number_from lo hi x ≡ true
 number-from {lo} {hi} {x} b = simp (is_true (le lo x) b.least, is_true (le x hi) b.most)
 
-module _ (g : SubbandSettings) (inBinary32 : InBinary32 g) (e : (startAnswer g).refused ≡ accepted) where
+module _ (g : SubbandSettings) (in_binary32 : InBinary32 g) (e : (start_answer g).refused ≡ accepted) where
   start : SubbandErleEstimator
-  start = (startAnswer g).state
+  start = (start_answer g).state
 
   ok : SettingsOk g
-  ok = settings-ok g inBinary32 e
+  ok = settings-ok g in_binary32 e
 
   first : Kept g start
   unfolding start
@@ -110,7 +110,7 @@ module _ (g : SubbandSettings) (inBinary32 : InBinary32 g) (e : (startAnswer g).
       (before s : SubbandErleEstimator) (ch : ℕ) → ch < g.num_capture_channels → StateResting g ch 0 before s
       → (k : ℕ) → k < 65 → AtRest g before s ch k
   at_rest before s ch h end k l =
-      let channel = channelAt s ch in
+      let channel = channel_at s ch in
       let held = end.kept.channels ch h in
       record {
         compensated = rest-compensated g ok.limits channel held end.channel k l;
@@ -138,9 +138,9 @@ module _ (g : SubbandSettings) (inBinary32 : InBinary32 g) (e : (startAnswer g).
               compensated = number-from (kept.onset k l).compensated;
               uncapped = number-from (kept.streams k l).uncapped;
             };
-        atRest = λ earlier later split ch h on many quiet k l.
+        at_rest = λ earlier later split ch h on many quiet k l.
             let before = run start earlier in
-            let resting : StateResting g ch (length (acceptedOf before later)) before before =
+            let resting : StateResting g ch (length (accepted_of before later)) before before =
             subst (λ (r : ℕ). StateResting g ch r before before) (sym many) (resting-first before ch h (run-kept g ok earlier start first)) in
             let whole : run before later ≡ run start calls =
             sym (run-append (λ t c. (answer t c).state) earlier later start) ∙ ap (run start) split in

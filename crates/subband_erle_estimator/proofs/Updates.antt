@@ -11,46 +11,46 @@ use Rattle.aec3_common.proofs.Tables.{Stored, stored_more, stored-firsts}
 use Rattle.subband_erle_estimator.specs.declared.channel.SubbandChannel.{SubbandChannel}
 use Rattle.subband_erle_estimator.specs.declared.settings.SubbandSettings.{SubbandSettings}
 use Rattle.subband_erle_estimator.specs.declared.SubbandErleEstimator.{SubbandErleEstimator}
-use Rattle.subband_erle_estimator.specs.Channel.{unconvergedBlock, sumsAfter, streamsAfter, onsetAfter, channelAfter}
-use Rattle.subband_erle_estimator.specs.Subband.{stateOk, noChannel, channelAt, block_of, updated}
+use Rattle.subband_erle_estimator.specs.Channel.{unconverged_block, sums_after, streams_after, onset_after, channel_after}
+use Rattle.subband_erle_estimator.specs.Subband.{state_ok, no_channel, channel_at, block_of, updated}
 
 -- where a channel stands unconverged its powers are not looked at
 pub quiet-any :
     (g : SubbandSettings) (c : SubbandChannel) (x y e : List Float)
-    → channelAfter g unconvergedBlock c ≡ channelAfter g (record { converged = false; render = x; capture = y; residual = e }) c
-unfolding channelAfter sumsAfter streamsAfter onsetAfter
+    → channel_after g unconverged_block c ≡ channel_after g (record { converged = false; render = x; capture = y; residual = e }) c
+unfolding channel_after sums_after streams_after onset_after
 quiet-any g c x y e = refl
 
 -- a channel after the update
 module _ (s : SubbandErleEstimator) (converged : List Bool) (x y e : List Float) where
-  unfoldable pub channelOf : ℕ → SubbandChannel
-  channelOf ch = channelAfter s.settings (block_of converged x y e ch) (channelAt s ch)
+  unfoldable pub channel_of : ℕ → SubbandChannel
+  channel_of ch = channel_after s.settings (block_of converged x y e ch) (channel_at s ch)
 
   pub converged-channel :
-      (ch : ℕ) (c : SubbandChannel) → get_or converged ch false ≡ true → c ≡ channelAt s ch
-      → channelAfter s.settings (record { converged = true; render = x; capture = part y ch; residual = part e ch }) c ≡ channelOf ch
-  unfolding channelOf
+      (ch : ℕ) (c : SubbandChannel) → get_or converged ch false ≡ true → c ≡ channel_at s ch
+      → channel_after s.settings (record { converged = true; render = x; capture = part y ch; residual = part e ch }) c ≡ channel_of ch
+  unfolding channel_of
   converged-channel ch c on same = simp (on, same)
 
   pub quiet-channel :
-      (ch : ℕ) (c : SubbandChannel) → get_or converged ch false ≡ false → c ≡ channelAt s ch
-      → channelAfter s.settings unconvergedBlock c ≡ channelOf ch
-  unfolding channelOf
+      (ch : ℕ) (c : SubbandChannel) → get_or converged ch false ≡ false → c ≡ channel_at s ch
+      → channel_after s.settings unconverged_block c ≡ channel_of ch
+  unfolding channel_of
   quiet-channel ch c off same = quiet-any s.settings c x (part y ch) (part e ch) ∙ simp (off, same)
 
   -- what the loop has done at ch
   pub record Updating (r : SubbandErleEstimator) (ch : ℕ) : Type 0 where
-    pub ok : UpdateOk (stateOk s) s.settings.num_capture_channels converged x y e
+    pub ok : UpdateOk (state_ok s) s.settings.num_capture_channels converged x y e
     pub settings : r.settings ≡ s.settings
-    pub stored : Stored 4 noChannel 0 s.settings.num_capture_channels channelOf s.channels r.channels ch
+    pub stored : Stored 4 no_channel 0 s.settings.num_capture_channels channel_of s.channels r.channels ch
 
   pub updating-more :
       (r : SubbandErleEstimator) (ch : ℕ) (v : SubbandChannel)
-      → Updating r ch → ch < s.settings.num_capture_channels → s.settings.num_capture_channels ≤ 4 → v ≡ channelOf ch
+      → Updating r ch → ch < s.settings.num_capture_channels → s.settings.num_capture_channels ≤ 4 → v ≡ channel_of ch
       → Updating (record { settings = r.settings; channels = set r.channels ch v }) (ch + 1)
   updating-more r ch v u h few e =
       record { ok = u.ok; settings = u.settings; stored = stored_more v u.stored h few e }
 
   pub updating-all : (r : SubbandErleEstimator) (ch : ℕ) → Updating r ch → s.settings.num_capture_channels ≤ ch → r ≡ updated s converged x y e
-  unfolding updated channelOf
+  unfolding updated channel_of
   updating-all r ch u h = λ i. record { settings = u.settings i; channels = stored-firsts u.stored h i }

@@ -1,8 +1,8 @@
 // One channel's record: 65 bands, and the points that its sums hold.
 ghost use Rattle.std.specs.Prelude.{◌≡◌, true, ◌≤◌, length};
-ghost use Rattle.subband_erle_estimator.specs.Channel.{pointsWith, fresh, unconvergedBlock, channelAfter};
-ghost use Rattle.subband_erle_estimator.specs.Subband.{channelOk};
-ghost use Rattle.subband_erle_estimator.specs.Steps.{learntBy};
+ghost use Rattle.subband_erle_estimator.specs.Channel.{points_with, fresh, unconverged_block, channel_after};
+ghost use Rattle.subband_erle_estimator.specs.Subband.{channel_ok};
+ghost use Rattle.subband_erle_estimator.specs.Steps.{learnt_by};
 
 use crate::settings::SubbandSettings;
 use aec3_common::spectra::copy_ends;
@@ -30,7 +30,7 @@ pub struct SubbandChannel {
 // The points held after one more.
 fn points_with(points: usize) -> usize
     requires { points ≤ 6 }
-    ensures { result ≡ pointsWith points }
+    ensures { result ≡ points_with points }
 {
     if points == POINTS_TO_ACCUMULATE {
         1
@@ -40,7 +40,7 @@ fn points_with(points: usize) -> usize
 }
 
 impl SubbandChannel {
-    #[tactic(auto, unfolding(crate::specs::Channel::fresh, crate::specs::Channel::channelFrom, aec3_common::specs::Lists::tab))]
+    #[tactic(auto, unfolding(crate::specs::Channel::fresh, crate::specs::Channel::channel_from, aec3_common::specs::Lists::tab))]
     pub fn new(min: f32) -> SubbandChannel
         ensures { result ≡ fresh min }
     {
@@ -94,9 +94,9 @@ impl SubbandChannel {
     }
 
     // Whether number 20 lets the record pass.
-    #[tactic(auto, unfolding(crate::specs::Subband::channelOk))]
+    #[tactic(auto, unfolding(crate::specs::Subband::channel_ok))]
     pub fn ok(self) -> bool
-        ensures { result ≡ channelOk self }
+        ensures { result ≡ channel_ok self }
     {
         let y2 = self.y2;
         let e2 = self.e2;
@@ -114,7 +114,7 @@ impl SubbandChannel {
     ) -> SubbandChannel
         requires num_points_bound { self.num_points ≤ 6 }
         requires x2_len { (length x2.now ≡ 65) × (length y2.now ≡ 65) × (length e2.now ≡ 65) }
-        ensures { result ≡ channelAfter settings (record { converged = true; render = x2.now; capture = y2.now; residual = e2.now }) self }
+        ensures { result ≡ channel_after settings (record { converged = true; render = x2.now; capture = y2.now; residual = e2.now }) self }
     {
         let anew = self.num_points == POINTS_TO_ACCUMULATE;
         add_powers(&mut self.y2, y2, anew);
@@ -145,7 +145,7 @@ impl SubbandChannel {
 
     // One update of a channel that stands unconverged.
     pub fn decay(mut self, settings: SubbandSettings) -> SubbandChannel
-        ensures { result ≡ channelAfter settings unconvergedBlock self }
+        ensures { result ≡ channel_after settings unconverged_block self }
     {
         let on = settings.onset_detection;
         lower_holds(&mut self.hold_counters, on);
@@ -168,7 +168,7 @@ impl SubbandChannel {
     // What the bands learn from the ratios of the sums. Sums and low energy are looked at from copies, so that the compiler makes
     // vector code of the loops.
     fn learnt(mut self, settings: SubbandSettings) -> SubbandChannel
-        ensures { result ≡ learntBy settings self }
+        ensures { result ≡ learnt_by settings self }
     {
         let y2 = self.y2;
         let e2 = self.e2;

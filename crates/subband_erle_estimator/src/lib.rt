@@ -9,7 +9,7 @@ ghost use Rattle.aec3_common.specs.Calls.{Call};
 ghost use Rattle.aec3_common.specs.Refusal.{accepted};
 ghost use Rattle.subband_erle_estimator.specs.Accepted.{NeverBadState};
 ghost use Rattle.subband_erle_estimator.specs.Resting.{RangeAndRest};
-ghost use Rattle.subband_erle_estimator.specs.Subband.{stateOk, started as Subband·started, startAnswer, resetAnswer, updateAnswer};
+ghost use Rattle.subband_erle_estimator.specs.Subband.{state_ok, started as Subband·started, start_answer, reset_answer, update_answer};
 
 use aec3_common::judge::call_refusal;
 use aec3_common::refusal::{ACCEPTED, BAD_STATE};
@@ -47,9 +47,9 @@ impl SubbandErleEstimator {
     // A start. 1 and 2 are turned away, with a state that every later update and reset turns away. Where it accepts, it promises what
     // holds after any list of calls: every figure in its range; with onset detection on, a channel at rest whose last 500 accepted
     // calls are updates in which it stands unconverged; and no call that is turned away under 20.
-    #[tactic(auto, unfolding(crate::specs::Subband::startAnswer))]
+    #[tactic(auto, unfolding(crate::specs::Subband::start_answer))]
     pub fn new(settings: SubbandSettings) -> SubbandAnswer
-        ensures value { result ≡ startAnswer settings }
+        ensures value { result ≡ start_answer settings }
         ensures range_and_rest { (calls : List Call) → result.refused ≡ accepted → RangeAndRest settings calls }
         ensures never_bad_state { result.refused ≡ accepted → NeverBadState result.state }
     {
@@ -65,7 +65,7 @@ impl SubbandErleEstimator {
 
     // Whether number 20 lets the state pass.
     fn ok(self) -> bool
-        ensures { result ≡ stateOk self }
+        ensures { result ≡ state_ok self }
     {
         let settings = self.settings;
         let mut ok = true;
@@ -88,9 +88,9 @@ impl SubbandErleEstimator {
     }
 
     // Every record as after a start. 20 is turned away.
-    #[tactic(auto, unfolding(crate::specs::Subband::resetAnswer, crate::specs::Subband::stateRefusal))]
+    #[tactic(auto, unfolding(crate::specs::Subband::reset_answer, crate::specs::Subband::state_refusal))]
     pub fn reset(self) -> SubbandAnswer
-        ensures { result ≡ resetAnswer self }
+        ensures { result ≡ reset_answer self }
     {
         if self.ok() {
             SubbandAnswer {
@@ -115,7 +115,7 @@ impl SubbandErleEstimator {
         y2: &[f32],
         e2: &[f32],
     ) -> SubbandAnswer
-        ensures { result ≡ updateAnswer self num_capture_channels converged_filters.now x2.now y2.now e2.now }
+        ensures { result ≡ update_answer self num_capture_channels converged_filters.now x2.now y2.now e2.now }
     {
         let settings = self.settings;
         let count = settings.num_capture_channels;

@@ -1,7 +1,7 @@
 // The settings of the estimator, and what turns them away.
 ghost use Rattle.std.specs.Prelude.{◌≡◌};
-ghost use Rattle.subband_erle_estimator.specs.Subband.{settingsRefusal, refusedSettings};
-ghost use Rattle.subband_erle_estimator.specs.Steps.{limitsOf, uncappedLimits, judgedChannels};
+ghost use Rattle.subband_erle_estimator.specs.Subband.{settings_refusal, refused_settings};
+ghost use Rattle.subband_erle_estimator.specs.Steps.{limits_of, uncapped_limits, judged_channels};
 
 use aec3_common::refusal::ACCEPTED;
 use aec3_common::settings::{GREATEST_ERLE, limits_and_channels_refusal};
@@ -17,9 +17,9 @@ pub struct SubbandSettings {
 }
 
 // What a refused start answers with: number 20 turns it away.
-#[tactic(auto, unfolding(crate::specs::Subband::refusedSettings))]
+#[tactic(auto, unfolding(crate::specs::Subband::refused_settings))]
 pub fn refused_settings() -> SubbandSettings
-    ensures { result ≡ refusedSettings }
+    ensures { result ≡ refused_settings }
 {
     SubbandSettings {
         min: 0.0,
@@ -32,17 +32,17 @@ pub fn refused_settings() -> SubbandSettings
 
 impl SubbandSettings {
     // The first of 1 and 2 that the settings break, or 0.
-    #[tactic(auto, unfolding(crate::specs::Subband::settingsRefusal))]
+    #[tactic(auto, unfolding(crate::specs::Subband::settings_refusal))]
     pub fn refusal(self) -> u32
-        ensures { result ≡ settingsRefusal self }
+        ensures { result ≡ settings_refusal self }
     {
         limits_and_channels_refusal(self.min, self.max_l, self.max_h, self.num_capture_channels)
     }
 
     // How many channels' records number 20 looks at: none where the settings fail already.
-    #[tactic(auto, unfolding(crate::specs::Steps::judgedChannels))]
+    #[tactic(auto, unfolding(crate::specs::Steps::judged_channels))]
     pub(crate) fn judged_channels(self) -> usize
-        ensures { result ≡ judgedChannels self }
+        ensures { result ≡ judged_channels self }
     {
         if self.refusal() == ACCEPTED {
             self.num_capture_channels
@@ -53,7 +53,7 @@ impl SubbandSettings {
 
     // The limits of the plain and the compensated stream.
     pub(crate) fn limits(self) -> Limits
-        ensures { result ≡ limitsOf self }
+        ensures { result ≡ limits_of self }
     {
         Limits {
             min: self.min,
@@ -64,7 +64,7 @@ impl SubbandSettings {
 
     // The limits of the uncapped stream.
     pub(crate) fn uncapped_limits(self) -> Limits
-        ensures { result ≡ uncappedLimits self }
+        ensures { result ≡ uncapped_limits self }
     {
         Limits {
             min: self.min,

@@ -14,29 +14,29 @@ use Rattle.trace_text.proofs.Lines.{lines-append}
 use Rattle.trace_state.specs.declared.Stop.{Stop}
 use Rattle.trace_state.specs.declared.Stop.TheVariants.{NoRecord, NoRoom, Refused, BadState}
 use Rattle.trace_state.specs.Apply.{beginning}
-use Rattle.trace_state.specs.Listing.{items_in, listing, fitting, fittingListing}
-use Rattle.trace_state.specs.Feed.{Walk, Stopped, findsRoom, fed, itemsAhead, itemsLeft, TooLong, Lists, GivesListing}
+use Rattle.trace_state.specs.Listing.{items_in, listing, fitting, fitting_listing}
+use Rattle.trace_state.specs.Feed.{Walk, Stopped, fed, items_ahead, items_left, TooLong, Lists, GivesListing}
 use Rattle.trace_state.proofs.Room.{room-none}
 use Rattle.trace_state.proofs.Running.{beginning-ok}
 use Rattle.trace_state.proofs.Ahead.{due-none}
 use Rattle.trace_state.proofs.Fitting.{fitting-cut, fitting-all}
 use Rattle.trace_state.proofs.Listed.{gives-listing}
 use Rattle.trace.specs.declared.listing.Listed.{Listed}
-use Rattle.trace.specs.Answers.{noRoom, listedAnswer, listedOver}
+use Rattle.trace.specs.Answers.{no_room, listed_answer, listed_over}
 
 header-some : 1 ≤ length header
 unfolding header line_of spaced
 header-some = omega arith
 
-ahead-beginning : (s : List ℕ) → itemsAhead beginning s ≡ items_in s
+pub ahead-beginning : (s : List ℕ) → items_ahead beginning s ≡ items_in s
 unfolding beginning
 ahead-beginning s = rw (due-none beginning refl)
 
 module _ (s d : List ℕ) where
   -- no room for the header
   pub listed-none :
-      after d 0 header ≡ 0 → (◌≡◌ {A = Listed} (record { written = 0; fits = false }) (listedAnswer s d)) × (written d 0 header ≡ listedOver s d)
-  unfolding listedAnswer listedOver fittingListing fitting listing written
+      after d 0 header ≡ 0 → (◌≡◌ {A = Listed} (record { written = 0; fits = false }) (listed_answer s d)) × (written d 0 header ≡ listed_over s d)
+  unfolding listed_answer listed_over fitting_listing fitting listing written
   listed-none none =
       let full = room-none d 0 header header-some none in
       let short : length d < length header = omega (arith, leb-false (0 + length header) (length d) full) in
@@ -55,8 +55,8 @@ module _ (s d : List ℕ) where
     listed-items :
         (x : Stopped) (items : List Item) (fits : Bool) → Wrote e next (lines items) x.walk.out x.walk.at
         → fitting (length d - length header) (map line (items_in s)) ≡ lines items → leb (length (header ++ lines (items_in s))) (length d) ≡ fits
-        → (◌≡◌ {A = Listed} (record { written = x.walk.at; fits = fits }) (listedAnswer s d)) × (x.walk.out ≡ listedOver s d)
-    unfolding listedAnswer listedOver fittingListing fitting listing
+        → (◌≡◌ {A = Listed} (record { written = x.walk.at; fits = fits }) (listed_answer s d)) × (x.walk.out ≡ listed_over s d)
+    unfolding listed_answer listed_over fitting_listing fitting listing
     listed-items x items fits text found told =
         let line-fits = le-leb (length header) (length d) (omega (arith, begun.room)) in
         let both = wrote_then begun text in
@@ -66,8 +66,8 @@ module _ (s d : List ℕ) where
     -- the whole listing, or as much of it as finds room
     pub listed-done :
         (x : Stopped) → x ≡ fed beginning s true e next
-        → (◌≡◌ {A = Listed} (record { written = x.walk.at; fits = not (noRoom x.stop) }) (listedAnswer s d)) × (x.walk.out ≡ listedOver s d)
-    unfolding GivesListing itemsLeft lines
+        → (◌≡◌ {A = Listed} (record { written = x.walk.at; fits = not (no_room x.stop) }) (listed_answer s d)) × (x.walk.out ≡ listed_over s d)
+    unfolding GivesListing items_left lines
     listed-done x is = go x.stop refl
       where
         lists : Lists s true w x
@@ -80,22 +80,22 @@ module _ (s d : List ℕ) where
         long = wrote-long begun
 
         -- with nothing behind the bytes
-        ahead : items_in s ≡ lists.items ++ itemsLeft x.stop x.walk.state (drop x.walk.used s)
+        ahead : items_in s ≡ lists.items ++ items_left x.stop x.walk.state (drop x.walk.used s)
         ahead = sym (ahead-beginning s) ∙ rw (append-nil s, append-nil (drop x.walk.used s)) at (lists.rest [] (λ end. refl))
 
         whole : (x.stop ≡ NoRoom → ⊥) → items_in s ≡ lists.items
         whole other = ahead ∙ rw (lists.all refl other, append-nil lists.items)
 
-        all : (x.stop ≡ NoRoom → ⊥) → (◌≡◌ {A = Listed} (record { written = x.walk.at; fits = true }) (listedAnswer s d)) × (x.walk.out ≡ listedOver s d)
+        all : (x.stop ≡ NoRoom → ⊥) → (◌≡◌ {A = Listed} (record { written = x.walk.at; fits = true }) (listed_answer s d)) × (x.walk.out ≡ listed_over s d)
         all other =
             let these = whole other in
             let size : length (lines (items_in s)) ≤ length d - length header = omega (arith, ap (λ (l : List Item). length (lines l)) these, text.room, begun.place, long) in
             listed-items x lists.items true text (fitting-all (length d - length header) (items_in s) size ∙ ap lines these)
             (le-leb (length (header ++ lines (items_in s))) (length d) (omega (arith, length-append header (lines (items_in s)), begun.room)))
 
-        cut : x.stop ≡ NoRoom → (◌≡◌ {A = Listed} (record { written = x.walk.at; fits = false }) (listedAnswer s d)) × (x.walk.out ≡ listedOver s d)
+        cut : x.stop ≡ NoRoom → (◌≡◌ {A = Listed} (record { written = x.walk.at; fits = false }) (listed_answer s d)) × (x.walk.out ≡ listed_over s d)
         cut full =
-            let next-line : TooLong x.walk (itemsAhead x.walk.state (drop x.walk.used s)) = rw (append-nil (drop x.walk.used s)) at (lists.full full [] (λ end. refl)) in
+            let next-line : TooLong x.walk (items_ahead x.walk.state (drop x.walk.used s)) = rw (append-nil (drop x.walk.used s)) at (lists.full full [] (λ end. refl)) in
             let these : items_in s ≡ lists.items ++ (next-line.first ∷ next-line.others) = rw (full, next-line.are) at ahead in
             let over = leb-false (x.walk.at + length (line next-line.first)) (length x.walk.out) next-line.long in
             let same : length x.walk.out ≡ length d = wrote-long text ∙ long in
@@ -110,8 +110,8 @@ module _ (s d : List ℕ) where
 
         go :
             (stop : Stop) → x.stop ≡ stop
-            → (◌≡◌ {A = Listed} (record { written = x.walk.at; fits = not (noRoom stop) }) (listedAnswer s d)) × (x.walk.out ≡ listedOver s d)
-        go NoRecord at-end = all (λ full. absurd (false≢true (ap noRoom (sym at-end ∙ full))))
+            → (◌≡◌ {A = Listed} (record { written = x.walk.at; fits = not (no_room stop) }) (listed_answer s d)) × (x.walk.out ≡ listed_over s d)
+        go NoRecord at-end = all (λ full. absurd (false≢true (ap no_room (sym at-end ∙ full))))
         go NoRoom full = cut full
-        go (Refused number) at-end = all (λ full. absurd (false≢true (ap noRoom (sym at-end ∙ full))))
-        go BadState at-end = all (λ full. absurd (false≢true (ap noRoom (sym at-end ∙ full))))
+        go (Refused number) at-end = all (λ full. absurd (false≢true (ap no_room (sym at-end ∙ full))))
+        go BadState at-end = all (λ full. absurd (false≢true (ap no_room (sym at-end ∙ full))))

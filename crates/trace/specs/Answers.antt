@@ -1,10 +1,12 @@
 -- What the functions answer, and what the list holds then that they write over.
 use Rattle.std.specs.Prelude.{Bool, true, false, List, ℕ, leb, length}
 use Rattle.encoding.specs.Text.{laid}
+use Rattle.streaming.specs.declared.transducer.Stop.{Stop as Streaming·Stop}
+use Rattle.streaming.specs.declared.transducer.Stop.TheVariants.{WantsBytes, WantsRoom, Done}
 use Rattle.trace_state.specs.declared.Trace.{Trace}
 use Rattle.trace_state.specs.declared.Stop.{Stop}
 use Rattle.trace_state.specs.declared.Stop.TheVariants.{NoRecord, NoRoom, Refused, BadState}
-use Rattle.trace_state.specs.Listing.{listing, fittingListing}
+use Rattle.trace_state.specs.Listing.{listing, fitting_listing}
 use Rattle.trace_state.specs.Feed.{Stopped, fed}
 use Rattle.trace.specs.declared.feeding.Fed.{Fed}
 use Rattle.trace.specs.declared.listing.Listed.{Listed}
@@ -14,25 +16,34 @@ use Rattle.trace.specs.declared.listing.Listed.{Listed}
 abbrev pub answer_of : Stopped → Fed
 answer_of e = record { state = e.walk.state; used = e.walk.used; at = e.walk.at; stop = e.stop }
 
-unfoldable pub feedAnswer : Trace → (s : List ℕ) → (ended : Bool) → (d : List ℕ) → ℕ → Fed
-feedAnswer t s ended d at = answer_of (fed t s ended d at)
+unfoldable pub feed_answer : Trace → (s : List ℕ) → (ended : Bool) → (d : List ℕ) → ℕ → Fed
+feed_answer t s ended d at = answer_of (fed t s ended d at)
 
-unfoldable pub feedOver : Trace → (s : List ℕ) → (ended : Bool) → (d : List ℕ) → ℕ → List ℕ
-feedOver t s ended d at = (fed t s ended d at).walk.out
+unfoldable pub feed_over : Trace → (s : List ℕ) → (ended : Bool) → (d : List ℕ) → ℕ → List ℕ
+feed_over t s ended d at = (fed t s ended d at).walk.out
 
 -- whether it stopped for want of room
-abbrev pub noRoom : Stop → Bool
-noRoom NoRecord = false
-noRoom NoRoom = true
-noRoom (Refused number) = false
-noRoom BadState = false
+abbrev pub no_room : Stop → Bool
+no_room NoRecord = false
+no_room NoRoom = true
+no_room (Refused number) = false
+no_room BadState = false
 
 -- ---- a whole listing
 
 -- Whether there is room for all of it, and how much is written.
-unfoldable pub listedAnswer : List ℕ → List ℕ → Listed
-listedAnswer s d =
-    record { fits = leb (length (listing s)) (length d); written = length (fittingListing s (length d)) }
+unfoldable pub listed_answer : List ℕ → List ℕ → Listed
+listed_answer s d =
+    record { fits = leb (length (listing s)) (length d); written = length (fitting_listing s (length d)) }
 
-unfoldable pub listedOver : List ℕ → List ℕ → List ℕ
-listedOver s d = laid d 0 (fittingListing s (length d))
+unfoldable pub listed_over : List ℕ → List ℕ → List ℕ
+listed_over s d = laid d 0 (fitting_listing s (length d))
+
+-- ---- fed by the loop of `streaming`
+
+-- what feeding wants next: after a refusal, nothing
+abbrev pub wanted : Stop → Streaming·Stop
+wanted NoRecord = WantsBytes
+wanted NoRoom = WantsRoom
+wanted (Refused number) = Done
+wanted BadState = Done

@@ -1,7 +1,7 @@
 // A trace fed to the estimator in pieces of any length.
 ghost use Rattle.std.specs.Prelude.{◌≡◌, ◌≤◌, length as ListN·length};
-ghost use Rattle.trace_state.specs.Feed.{refusedEnd, GivesListing};
-ghost use Rattle.trace.specs.Answers.{answer_of, feedAnswer, feedOver};
+ghost use Rattle.trace_state.specs.Feed.{refused_end, GivesListing};
+ghost use Rattle.trace.specs.Answers.{answer_of, feed_answer, feed_over};
 
 use aec3_common::counts::one_more;
 use aec3_common::refusal::ACCEPTED;
@@ -34,8 +34,8 @@ fn standing_of(settings: ErleSettings) -> Standing
 
 // A refused record: its line, if that finds room, and the state as it was.
 fn refuse(state: Trace, used: usize, number: u32, out: &mut [u8], at: usize) -> Fed
-    ensures value { result ≡ answer_of (refusedEnd (record { state = state; used = used; out = out.old; at = at }) number) }
-    ensures out_after { out.new ≡ (refusedEnd (record { state = state; used = used; out = out.old; at = at }) number).walk.out }
+    ensures value { result ≡ answer_of (refused_end (record { state = state; used = used; out = out.old; at = at }) number) }
+    ensures out_after { out.new ≡ (refused_end (record { state = state; used = used; out = out.old; at = at }) number).walk.out }
 {
     let next = put_refused(out, at, number, one_more(state.records));
     if next == at {
@@ -60,8 +60,8 @@ fn refuse(state: Trace, used: usize, number: u32, out: &mut [u8], at: usize) -> 
 // refusal that finds none is found again in the bytes that are left. A refused record is not done with, and nothing is to be fed behind it. 20 is
 // judged of the state that is handed in, and not again between records.
 pub fn feed(t: Trace, input: &[u8], ended: bool, out: &mut [u8], at: usize) -> Fed
-    ensures value { result ≡ feedAnswer t input.now ended out.old at }
-    ensures out_after { out.new ≡ feedOver t input.now ended out.old at }
+    ensures value { result ≡ feed_answer t input.now ended out.old at }
+    ensures out_after { out.new ≡ feed_over t input.now ended out.old at }
     ensures used_bound { result.used ≤ ListN·length input.now }
     ensures gives_listing { GivesListing t input.now ended out.old at }
 {

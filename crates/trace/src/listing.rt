@@ -1,6 +1,6 @@
 // The listing of a whole trace.
 ghost use Rattle.std.specs.Prelude.{◌≡◌};
-ghost use Rattle.trace.specs.Answers.{noRoom, listedAnswer, listedOver};
+ghost use Rattle.trace.specs.Answers.{no_room, listed_answer, listed_over};
 
 use crate::feeding::feed;
 use trace_state::{Stop, beginning};
@@ -15,7 +15,7 @@ pub struct Listed {
 
 // Whether feeding stopped for want of room.
 fn lacks_room(stop: Stop) -> bool
-    ensures { result ≡ noRoom stop }
+    ensures { result ≡ no_room stop }
 {
     match stop {
         Stop::NoRoom => true,
@@ -27,8 +27,8 @@ fn lacks_room(stop: Stop) -> bool
 
 // The listing of a trace, and the rest of the slice as it was. Where there is no room for all, as many of its lines are written as find room.
 pub fn list_trace(input: &[u8], out: &mut [u8]) -> Listed
-    ensures value { result ≡ listedAnswer input.now out.old }
-    ensures out_after { out.new ≡ listedOver input.now out.old }
+    ensures value { result ≡ listed_answer input.now out.old }
+    ensures out_after { out.new ≡ listed_over input.now out.old }
 {
     let at = put_header(out, 0);
     if at == 0 {

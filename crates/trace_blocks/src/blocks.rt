@@ -1,8 +1,8 @@
 // Blocks of a trace in a row.
 ghost use Rattle.std.specs.Prelude.{◌≡◌, cond, ◌≤◌, leb, length as ListN·length};
-ghost use Rattle.subband_erle_estimator.specs.Channel.{Block, channelAfter};
-ghost use Rattle.trace_state.specs.Apply.{channelsOf};
-ghost use Rattle.trace_blocks.specs.Steps.{figuresOf, blockFrameLength, Ready, Ran};
+ghost use Rattle.subband_erle_estimator.specs.Channel.{Block, channel_after};
+ghost use Rattle.trace_state.specs.Apply.{channels_of};
+ghost use Rattle.trace_blocks.specs.Steps.{figures_of, block_frame_length, Ready, Ran};
 
 use crate::rows::{ChannelFigures, all_figures, figures_at, put_rows};
 use aec3_common::counts::one_more;
@@ -26,7 +26,7 @@ pub struct Run {
 
 // The L of the block that the bytes begin with, or 0 where they begin with none that is whole and has its form.
 fn block_frame_length(standing: Standing, s: &[u8]) -> usize
-    ensures { result ≡ blockFrameLength standing s.now }
+    ensures { result ≡ block_frame_length standing s.now }
 {
     let length = frame_length(s);
     if length == 0 {
@@ -67,8 +67,8 @@ fn moved_channel(
 ) -> MovedChannel
     requires num_points_bound { c.num_points ≤ 6 }
     requires x2_value { (ListN·length x2.now ≡ 65) × (ListN·length y2.now ≡ 65) × (ListN·length e2.now ≡ 65) }
-    ensures channel_value { result.channel ≡ channelAfter settings (record { converged = converged; render = x2.now; capture = y2.now; residual = e2.now }) c }
-    ensures figures_value { result.figures ≡ figuresOf settings.onset_detection band result.channel }
+    ensures channel_value { result.channel ≡ channel_after settings (record { converged = converged; render = x2.now; capture = y2.now; residual = e2.now }) c }
+    ensures figures_value { result.figures ≡ figures_of settings.onset_detection band result.channel }
 {
     let channel = subband_channel(c, settings, converged, x2, y2, e2);
     MovedChannel {
@@ -88,7 +88,7 @@ fn moving_channels(startup: u32, counted: u32, n: usize) -> usize
 // the one before find room. The estimator stands in one variable and is changed in place: handing it to a function for every block would
 // copy all of it for every block.
 pub fn run_blocks(t: Trace, input: &[u8], used: usize, out: &mut [u8], at: usize) -> Run
-    requires { Ready t.estimator × (t.rows_due ≤ channelsOf t.estimator) × (used ≤ ListN·length input.now) }
+    requires { Ready t.estimator × (t.rows_due ≤ channels_of t.estimator) × (used ≤ ListN·length input.now) }
     ensures { Ran input.now (record { state = t; used = used; out = out.old; at = at }) (record { state = result.state; used = result.used; out = out.new; at = result.at }) }
 {
     let band = t.band;

@@ -1,4 +1,6 @@
 // The rows and the blocks of a trace, many in a row, changing the estimator in place.
+#![tactic(auto)]
+
 mod blocks;
 mod rows;
 

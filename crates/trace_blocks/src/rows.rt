@@ -2,9 +2,9 @@
 ghost use Rattle.std.specs.Prelude.{◌≡◌, ◌≤◌, length, get_or};
 ghost use Rattle.std.specs.Float.{nan};
 ghost use Rattle.aec3_common.specs.Lists.{tab};
-ghost use Rattle.subband_erle_estimator.specs.Subband.{channelAt};
-ghost use Rattle.erle_estimator.specs.Parts.{subbandPart};
-ghost use Rattle.trace_blocks.specs.Steps.{figuresOf, figuresRow, rowsWritten};
+ghost use Rattle.subband_erle_estimator.specs.Subband.{channel_at};
+ghost use Rattle.erle_estimator.specs.Parts.{subband_part};
+ghost use Rattle.trace_blocks.specs.Steps.{figures_of, figures_row, rows_written};
 
 use erle_estimator::{ErleEstimator, erle};
 use subband_erle_estimator::SubbandChannel;
@@ -38,7 +38,7 @@ fn figure_at(stream: &[f32], band: usize) -> f32
 
 // A channel's figures where there is one section, which its subband record alone gives.
 pub fn figures_at(c: SubbandChannel, onset_detection: bool, band: usize) -> ChannelFigures
-    ensures { result ≡ figuresOf onset_detection band c }
+    ensures { result ≡ figures_of onset_detection band c }
 {
     let shown = erle(&c.erle, &c.erle_onset_compensated, true, onset_detection);
     let compensated = figure_at(shown, band);
@@ -51,7 +51,7 @@ pub fn figures_at(c: SubbandChannel, onset_detection: bool, band: usize) -> Chan
 
 // Those of four channels.
 pub fn all_figures(estimator: ErleEstimator, band: usize) -> [ChannelFigures; 4]
-    ensures { result ≡ tab 4 (λ ch. figuresOf estimator.settings.onset_detection band (channelAt (subbandPart estimator) ch)) }
+    ensures { result ≡ tab 4 (λ ch. figures_of estimator.settings.onset_detection band (channel_at (subband_part estimator) ch)) }
 {
     let on = estimator.settings.onset_detection;
     let none = ChannelFigures {
@@ -77,7 +77,7 @@ pub fn put_rows(
     block: u32,
 ) -> RowsPut
     requires { (due ≤ n) × (n ≤ 4) }
-    ensures at_value { rowsWritten (figuresRow block figures) n due out.entry.now at ≡ record { out = out.exit.now; at = result.at; due = result.due } }
+    ensures at_value { rows_written (figures_row block figures) n due out.entry.now at ≡ record { out = out.exit.now; at = result.at; due = result.due } }
     ensures due_le_due { result.due ≤ due }
 {
     let mut at = at;

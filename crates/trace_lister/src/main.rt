@@ -1,6 +1,8 @@
 // Lists many traces from standard input, one behind the other, each with its length in four bytes before it; their listings go to
 // standard output, one behind the other. For tests. It ends on every input, at a trace that is cut short or that is longer than the
 // buffer with the line `bad`.
+#![tactic(auto)]
+
 ghost use Rattle.std.specs.Prelude.{◌≡◌, ◌≤◌, length};
 
 use encoding::word_at;

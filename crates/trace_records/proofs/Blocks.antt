@@ -9,17 +9,17 @@ use lib.Dec.{ltb}
 use lib.Ieee.{Float, nan, binary32, of_bits}
 use lib.ListN.{length, set, take, drop, length-drop}
 use lib.Seq.{ext_get_or, get_or-take, get_or-drop, length-take-le}
-use Rattle.aec3_common.specs.Binary32.{greatestValue, within, valuesOk}
-use Rattle.aec3_common.specs.Calls.{valuesInRange}
+use Rattle.aec3_common.specs.Binary32.{greatest_value, within, values_ok}
+use Rattle.aec3_common.specs.Calls.{values_in_range}
 use Rattle.aec3_common.specs.Lists.{tab}
 use Rattle.aec3_common.specs.Spectra.{part}
 use Rattle.aec3_common.proofs.Choices.{each-of-three}
 use Rattle.aec3_common.proofs.Every.{every-at, every-by, Tested, tested-none, tested-more, tested-all}
-use Rattle.aec3_common.proofs.Tables.{length-tab, getD-tab, getD-tab-first, tab-is, tab-same, Stored, stored-none, stored_more}
-use Rattle.encoding.specs.Bytes.{byte_at, halfAt, word_at}
-use Rattle.trace_records.specs.Records.{is_set, value_at, convergedByte, flagsIn, spectrumAt, renderPlace, renderIn, spectraAt, capturePlace, captureIn, residualPlace, residualIn}
-use Rattle.trace_records.specs.Judge.{blockLength}
-use Rattle.trace_records.specs.Steps.{flagTable, BlockRead}
+use Rattle.aec3_common.proofs.Tables.{length-tab, get_or-tab, get_or-tab-first, tab-is, tab-same, Stored, stored-none, stored_more}
+use Rattle.encoding.specs.Bytes.{byte_at, half_at, word_at}
+use Rattle.trace_records.specs.Records.{is_set, value_at, converged_byte, flags_in, spectrum_at, render_place, render_in, spectra_at, capture_place, capture_in, residual_place, residual_in}
+use Rattle.trace_records.specs.Judge.{block_length}
+use Rattle.trace_records.specs.Steps.{flag_table, BlockRead}
 
 -- ---- how long the lists are
 
@@ -29,63 +29,63 @@ map-tab f zero g = refl
 map-tab f (suc n) g = ap (λ l. f (g zero) ∷ l) (map-tab f n (λ k. g (suc k)))
 
 -- what the flag bytes say, one by one
-pub flags-tab : (n : ℕ) (r : List ℕ) → map is_set (flagsIn n r) ≡ tab n (λ ch. is_set (convergedByte r ch))
-unfolding flagsIn
-flags-tab n r = map-tab is_set n (convergedByte r)
+pub flags-tab : (n : ℕ) (r : List ℕ) → map is_set (flags_in n r) ≡ tab n (λ ch. is_set (converged_byte r ch))
+unfolding flags_in
+flags-tab n r = map-tab is_set n (converged_byte r)
 
-pub length-flags : (n : ℕ) (r : List ℕ) → length (map is_set (flagsIn n r)) ≡ n
+pub length-flags : (n : ℕ) (r : List ℕ) → length (map is_set (flags_in n r)) ≡ n
 length-flags n r = ap length (flags-tab n r) ∙ length-tab n _
 
-pub length-render : (n : ℕ) (r : List ℕ) → length (renderIn n r) ≡ 65
-unfolding renderIn spectrumAt
+pub length-render : (n : ℕ) (r : List ℕ) → length (render_in n r) ≡ 65
+unfolding render_in spectrum_at
 length-render n r = length-tab 65 _
 
-length-spectra : (n : ℕ) (r : List ℕ) (i : ℕ) → length (spectraAt n r i) ≡ n * 65
-unfolding spectraAt
+length-spectra : (n : ℕ) (r : List ℕ) (i : ℕ) → length (spectra_at n r i) ≡ n * 65
+unfolding spectra_at
 length-spectra n r i = length-tab (n * 65) _
 
-pub length-capture : (n : ℕ) (r : List ℕ) → length (captureIn n r) ≡ n * 65
-unfolding captureIn
+pub length-capture : (n : ℕ) (r : List ℕ) → length (capture_in n r) ≡ n * 65
+unfolding capture_in
 length-capture n r = length-spectra n r _
 
-pub length-residual : (n : ℕ) (r : List ℕ) → length (residualIn n r) ≡ n * 65
-unfolding residualIn
+pub length-residual : (n : ℕ) (r : List ℕ) → length (residual_in n r) ≡ n * 65
+unfolding residual_in
 length-residual n r = length-spectra n r _
 
 -- ---- flags
 
-pub length-flag-table : (n : ℕ) (r : List ℕ) → length (flagTable n r) ≡ 4
-unfolding flagTable
+pub length-flag-table : (n : ℕ) (r : List ℕ) → length (flag_table n r) ≡ 4
+unfolding flag_table
 length-flag-table n r = length-tab 4 _
 
 -- the table begins with what the flag bytes say
-pub flags-front : (n : ℕ) (r : List ℕ) → n ≤ 4 → take n (flagTable n r) ≡ map is_set (flagsIn n r)
-unfolding flagTable
+pub flags-front : (n : ℕ) (r : List ℕ) → n ≤ 4 → take n (flag_table n r) ≡ map is_set (flags_in n r)
+unfolding flag_table
 flags-front n r few =
     rw flags-tab
-    (tab-is n false _ (take n (flagTable n r))
-    (length-take-le n (flagTable n r) (omega (arith, length-flag-table n r)))
-    (λ k b. get_or-take n (flagTable n r) k false b ∙ getD-tab-first 4 n (λ ch. is_set (convergedByte r ch)) (λ ch. false) k false few b))
+    (tab-is n false _ (take n (flag_table n r))
+    (length-take-le n (flag_table n r) (omega (arith, length-flag-table n r)))
+    (λ k b. get_or-take n (flag_table n r) k false b ∙ get_or-tab-first 4 n (λ ch. is_set (converged_byte r ch)) (λ ch. false) k false few b))
 
 -- ---- the loop that reads the numbers
 
 -- number k of a block: of render power, or behind it of the channels' capture and residual power
 abbrev number_at : ℕ → List ℕ → ℕ → Float
-number_at n r k = value_at r (renderPlace n + 4 * k)
+number_at n r k = value_at r (render_place n + 4 * k)
 
 -- all of them
-abbrev numbersIn : ℕ → List ℕ → List Float
-numbersIn n r = tab (65 + 130 * n) (number_at n r)
+abbrev numbers_in : ℕ → List ℕ → List Float
+numbers_in n r = tab (65 + 130 * n) (number_at n r)
 
 -- number 6 of one of them
 abbrev passes : Float → Bool
-passes x = within greatestValue x
+passes x = within greatest_value x
 
 -- four bytes one after the other
 pub four_bytes :
     (r : List ℕ) (i : ℕ)
     → of_bits binary32 (byte_at r i + 256 * byte_at r (i + 1) + 65536 * (byte_at r (i + 2) + 256 * byte_at r (i + 3))) ≡ value_at r i
-unfolding value_at word_at halfAt
+unfolding value_at word_at half_at
 four_bytes r i =
     let next : i + 2 + 1 ≡ i + 3 = omega arith in
     rw next
@@ -93,18 +93,18 @@ four_bytes r i =
 -- What the loop has done at k: the first k numbers stand in the table, and ok says whether all of them pass.
 pub record Reading (n : ℕ) (r : List ℕ) (xs ys : List Float) (ok : Bool) (k : ℕ) : Type 0 where
   pub few : n ≤ 4
-  pub whole : length r ≡ blockLength n
+  pub whole : length r ≡ block_length n
   pub stored : Stored 585 nan 0 (65 + 130 * n) (number_at n r) xs ys k
-  pub tested : Tested passes (numbersIn n r) k ok
+  pub tested : Tested passes (numbers_in n r) k ok
 
 pub reading-none :
-    (n : ℕ) (r : List ℕ) (xs : List Float) → n ≤ 4 → length r ≡ blockLength n → length xs ≡ 585 → Reading n r xs xs true 0
+    (n : ℕ) (r : List ℕ) (xs : List Float) → n ≤ 4 → length r ≡ block_length n → length xs ≡ 585 → Reading n r xs xs true 0
 reading-none n r xs few whole long =
     record {
       few = few;
       whole = whole;
       stored = stored-none nan 0 (65 + 130 * n) (number_at n r) xs (omega arith) long;
-      tested = tested-none passes (numbersIn n r);
+      tested = tested-none passes (numbers_in n r);
     }
 
 pub reading-more :
@@ -118,33 +118,33 @@ reading-more {n = n} {r = r} {k = k} v s h e told =
       stored = stored_more v s.stored h (omega (arith, s.few)) e;
       tested =
           tested-more nan s.tested (omega (arith, length-tab (65 + 130 * n) (number_at n r)))
-          (told ∙ ap passes (e ∙ sym (getD-tab (65 + 130 * n) (number_at n r) k nan h)));
+          (told ∙ ap passes (e ∙ sym (get_or-tab (65 + 130 * n) (number_at n r) k nan h)));
     }
 
 -- ---- where each list stands among the numbers
 
 -- One spectrum of each channel, of which channel 0's begins at number o. Each channel has 130 numbers.
-abbrev numbersFrom : ℕ → List ℕ → ℕ → List Float
-numbersFrom n r o = tab (n * 65) (λ k. number_at n r (o + 130 * (k / 65) + k % 65))
+abbrev numbers_from : ℕ → List ℕ → ℕ → List Float
+numbers_from n r o = tab (n * 65) (λ k. number_at n r (o + 130 * (k / 65) + k % 65))
 
-spectra-numbers : (n : ℕ) (r : List ℕ) (i o : ℕ) → i ≡ renderPlace n + 4 * o → spectraAt n r i ≡ numbersFrom n r o
-unfolding spectraAt
+spectra-numbers : (n : ℕ) (r : List ℕ) (i o : ℕ) → i ≡ render_place n + 4 * o → spectra_at n r i ≡ numbers_from n r o
+unfolding spectra_at
 spectra-numbers n r i o e = tab-same (n * 65) nan _ _ (λ k b. ap (value_at r) (omega arith))
 
-render-numbers : (n : ℕ) (r : List ℕ) → renderIn n r ≡ tab 65 (number_at n r)
-unfolding renderIn spectrumAt
+render-numbers : (n : ℕ) (r : List ℕ) → render_in n r ≡ tab 65 (number_at n r)
+unfolding render_in spectrum_at
 render-numbers n r = refl
 
-capture-numbers : (n : ℕ) (r : List ℕ) → captureIn n r ≡ numbersFrom n r 65
-unfolding captureIn
-capture-numbers n r = spectra-numbers n r (capturePlace n) 65 (omega arith)
+capture-numbers : (n : ℕ) (r : List ℕ) → capture_in n r ≡ numbers_from n r 65
+unfolding capture_in
+capture-numbers n r = spectra-numbers n r (capture_place n) 65 (omega arith)
 
-residual-numbers : (n : ℕ) (r : List ℕ) → residualIn n r ≡ numbersFrom n r 130
-unfolding residualIn
-residual-numbers n r = spectra-numbers n r (residualPlace n) 130 (omega arith)
+residual-numbers : (n : ℕ) (r : List ℕ) → residual_in n r ≡ numbers_from n r 130
+unfolding residual_in
+residual-numbers n r = spectra-numbers n r (residual_place n) 130 (omega arith)
 
 module _ {n : ℕ} {r : List ℕ} {values : List Float} {ok : Bool} (read : BlockRead n r values ok) where
-  pub read-render : take 65 values ≡ renderIn n r
+  pub read-render : take 65 values ≡ render_in n r
   read-render =
       rw render-numbers
       (tab-is 65 nan (number_at n r) (take 65 values)
@@ -152,12 +152,12 @@ module _ {n : ℕ} {r : List ℕ} {values : List Float} {ok : Bool} (read : Bloc
       (λ k b. get_or-take 65 values k nan b ∙ read.each k (omega arith)))
 
   -- a channel's spectrum
-  read-part : (o ch : ℕ) → o ≤ 130 → n ≤ 4 → ch < n → take 65 (drop (o + 130 * ch) values) ≡ part (numbersFrom n r o) ch
+  read-part : (o ch : ℕ) → o ≤ 130 → n ≤ 4 → ch < n → take 65 (drop (o + 130 * ch) values) ≡ part (numbers_from n r o) ch
   unfolding part
   read-part o ch near few h =
       let at = o + 130 * ch in
       let from = ch * 65 in
-      let all = numbersFrom n r o in
+      let all = numbers_from n r o in
       let long-read = length-take-le 65 (drop at values) (omega (arith, length-drop at values, read.long)) in
       let long = length-take-le 65 (drop from all) (omega (arith, length-drop from all, length-tab (n * 65) (λ k. number_at n r (o + 130 * (k / 65) + k % 65)))) in
       ext_get_or nan (take 65 (drop at values)) (take 65 (drop from all)) (long-read ∙ sym long)
@@ -168,12 +168,12 @@ module _ {n : ℕ} {r : List ℕ} {values : List Float} {ok : Bool} (read : Bloc
       ∙ get_or-drop at values k nan
       ∙ read.each (at + k) (omega arith)
       ∙ ap (number_at n r) number
-      ∙ sym (get_or-take 65 (drop from all) k nan below ∙ get_or-drop from all k nan ∙ getD-tab (n * 65) _ (from + k) nan (omega arith)))
+      ∙ sym (get_or-take 65 (drop from all) k nan below ∙ get_or-drop from all k nan ∙ get_or-tab (n * 65) _ (from + k) nan (omega arith)))
 
-  pub read-capture : (ch : ℕ) → n ≤ 4 → ch < n → take 65 (drop (65 + 130 * ch) values) ≡ part (captureIn n r) ch
+  pub read-capture : (ch : ℕ) → n ≤ 4 → ch < n → take 65 (drop (65 + 130 * ch) values) ≡ part (capture_in n r) ch
   read-capture ch few h = rw capture-numbers (read-part 65 ch (omega arith) few h)
 
-  pub read-residual : (ch : ℕ) → n ≤ 4 → ch < n → take 65 (drop (65 + 130 * ch + 65) values) ≡ part (residualIn n r) ch
+  pub read-residual : (ch : ℕ) → n ≤ 4 → ch < n → take 65 (drop (65 + 130 * ch + 65) values) ≡ part (residual_in n r) ch
   read-residual ch few h =
       let at : 65 + 130 * ch + 65 ≡ 130 + 130 * ch = omega arith in
       rw (at, residual-numbers) (read-part 130 ch (omega arith) few h)
@@ -188,24 +188,24 @@ same_tests false false f g = refl
 
 -- a list passes where each of its entries does
 module _ (n : ℕ) (f : ℕ → Float) where
-  list-passes : ((k : ℕ) → k < n → passes (f k) ≡ true) → valuesOk (tab n f) ≡ true
+  list-passes : ((k : ℕ) → k < n → passes (f k) ≡ true) → values_ok (tab n f) ≡ true
   list-passes each =
       every-by passes (tab n f) nan
-      (λ k b. let below : k < n = omega (arith, length-tab n f) in ap passes (getD-tab n f k nan below) ∙ each k below)
+      (λ k b. let below : k < n = omega (arith, length-tab n f) in ap passes (get_or-tab n f k nan below) ∙ each k below)
 
-  each-passes : valuesOk (tab n f) ≡ true → (k : ℕ) → k < n → passes (f k) ≡ true
-  each-passes ok k b = ap passes (sym (getD-tab n f k nan b)) ∙ every-at passes (tab n f) nan k ok (omega (arith, length-tab n f))
+  each-passes : values_ok (tab n f) ≡ true → (k : ℕ) → k < n → passes (f k) ≡ true
+  each-passes ok k b = ap passes (sym (get_or-tab n f k nan b)) ∙ every-at passes (tab n f) nan k ok (omega (arith, length-tab n f))
 
 -- all numbers of a block pass where render, capture and residual power do
-numbers-tested : (n : ℕ) (r : List ℕ) → valuesOk (numbersIn n r) ≡ valuesInRange (renderIn n r) (captureIn n r) (residualIn n r)
+numbers-tested : (n : ℕ) (r : List ℕ) → values_ok (numbers_in n r) ≡ values_in_range (render_in n r) (capture_in n r) (residual_in n r)
 numbers-tested n r =
     rw (render-numbers, capture-numbers, residual-numbers)
-    (same_tests (valuesOk (numbersIn n r)) (valuesInRange render (numbersFrom n r 65) (numbersFrom n r 130)) apart together)
+    (same_tests (values_ok (numbers_in n r)) (values_in_range render (numbers_from n r 65) (numbers_from n r 130)) apart together)
   where
     render : List Float
     render = tab 65 (number_at n r)
 
-    apart : valuesOk (numbersIn n r) ≡ true → valuesInRange render (numbersFrom n r 65) (numbersFrom n r 130) ≡ true
+    apart : values_ok (numbers_in n r) ≡ true → values_in_range render (numbers_from n r 65) (numbers_from n r 130) ≡ true
     apart ok =
         rw (
           list-passes 65 (number_at n r) (λ k b. each k (omega arith)),
@@ -216,15 +216,15 @@ numbers-tested n r =
         each : (k : ℕ) → k < 65 + 130 * n → passes (number_at n r k) ≡ true
         each k b = each-passes (65 + 130 * n) (number_at n r) ok k b
 
-    together : valuesInRange render (numbersFrom n r 65) (numbersFrom n r 130) ≡ true → valuesOk (numbersIn n r) ≡ true
+    together : values_in_range render (numbers_from n r 65) (numbers_from n r 130) ≡ true → values_ok (numbers_in n r) ≡ true
     together ok = list-passes (65 + 130 * n) (number_at n r) (λ k b. one k b (ltb k 65) refl (ltb ((k - 65) % 130) 65) refl)
       where
-        lists : (valuesOk render ≡ true) × (valuesOk (numbersFrom n r 65) ≡ true) × (valuesOk (numbersFrom n r 130) ≡ true)
-        lists = each-of-three (valuesOk render) (valuesOk (numbersFrom n r 65)) (valuesOk (numbersFrom n r 130)) ok
+        lists : (values_ok render ≡ true) × (values_ok (numbers_from n r 65) ≡ true) × (values_ok (numbers_from n r 130) ≡ true)
+        lists = each-of-three (values_ok render) (values_ok (numbers_from n r 65)) (values_ok (numbers_from n r 130)) ok
 
         -- number o + 130 * ch + j is entry ch * 65 + j of a list
         in_list :
-            (o : ℕ) → valuesOk (numbersFrom n r o) ≡ true → (ch j k : ℕ) → ch < n → j < 65 → k ≡ o + 130 * ch + j
+            (o : ℕ) → values_ok (numbers_from n r o) ≡ true → (ch j k : ℕ) → ch < n → j < 65 → k ≡ o + 130 * ch + j
             → passes (number_at n r k) ≡ true
         in_list o pass ch j k h b e =
             let number : k ≡ o + 130 * ((ch * 65 + j) / 65) + (ch * 65 + j) % 65 = omega arith in

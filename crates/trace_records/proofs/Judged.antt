@@ -5,38 +5,38 @@ use Prim.Native.Nat.{ℕ, ◌≤◌}
 use native.Mathlib.Omega.{arith}
 use borrow.Author.Tests.{eqb-true, eq-eqb, ne_eqb}
 use lib.Dec.{eqb}
-use Rattle.aec3_common.specs.Refusal.{unless, accepted, badRecordLength, badFlagOrBand}
+use Rattle.aec3_common.specs.Refusal.{unless, accepted, bad_record_length, bad_flag_or_band}
 use Rattle.aec3_common.proofs.Choices.{passed, later-passed, first-of-passed}
 use Rattle.aec3_common.proofs.Ranges.{from-lo, to-hi}
 use Rattle.trace_records.specs.declared.judge.Standing.{Standing}
 use Rattle.trace_records.specs.Records.{BlockRecord, Record, block, reset, unknown}
-use Rattle.trace_records.specs.Judge.{stands, placeRefusal, blockLength, lengthAsked, flagsOk, valueRefusal, formRefusal, recordRefusal}
+use Rattle.trace_records.specs.Judge.{stands, place_refusal, block_length, length_asked, flags_ok, value_refusal, form_refusal, record_refusal}
 
 -- ---- form, and then values
 
 module _ (st : Standing) (l : ℕ) (r : Record) where
-  pub form-refused : (formRefusal st l r ≡ accepted → ⊥) → recordRefusal st l r ≡ formRefusal st l r
-  unfolding recordRefusal
-  form-refused some = rw (ne_eqb (formRefusal st l r) accepted some)
+  pub form-refused : (form_refusal st l r ≡ accepted → ⊥) → record_refusal st l r ≡ form_refusal st l r
+  unfolding record_refusal
+  form-refused some = rw (ne_eqb (form_refusal st l r) accepted some)
 
-  pub form-passed : formRefusal st l r ≡ accepted → recordRefusal st l r ≡ valueRefusal r
-  unfolding recordRefusal
-  form-passed none = rw (eq-eqb (formRefusal st l r) accepted none)
+  pub form-passed : form_refusal st l r ≡ accepted → record_refusal st l r ≡ value_refusal r
+  unfolding record_refusal
+  form-passed none = rw (eq-eqb (form_refusal st l r) accepted none)
 
   -- an accepted record is in form, and its values pass
-  pub both-passed : recordRefusal st l r ≡ accepted → (formRefusal st l r ≡ accepted) × (valueRefusal r ≡ accepted)
-  unfolding recordRefusal
-  both-passed e = first-of-passed (formRefusal st l r) (valueRefusal r) e
+  pub both-passed : record_refusal st l r ≡ accepted → (form_refusal st l r ≡ accepted) × (value_refusal r ≡ accepted)
+  unfolding record_refusal
+  both-passed e = first-of-passed (form_refusal st l r) (value_refusal r) e
 
   -- a record in form is in its place, and has its length and its flags
-  pub in-form : formRefusal st l r ≡ accepted → (placeRefusal st r ≡ accepted) × (l ≡ lengthAsked st r) × (flagsOk r ≡ true)
-  unfolding formRefusal
+  pub in-form : form_refusal st l r ≡ accepted → (place_refusal st r ≡ accepted) × (l ≡ length_asked st r) × (flags_ok r ≡ true)
+  unfolding form_refusal
   in-form e =
-      let flags = unless (flagsOk r) badFlagOrBand accepted in
-      let (place, rest) = first-of-passed (placeRefusal st r) (unless (eqb l (lengthAsked st r)) badRecordLength flags) e in (
+      let flags = unless (flags_ok r) bad_flag_or_band accepted in
+      let (place, rest) = first-of-passed (place_refusal st r) (unless (eqb l (length_asked st r)) bad_record_length flags) e in (
         place,
-        eqb-true l (lengthAsked st r) (passed (eqb l (lengthAsked st r)) 11 flags rest),
-        passed (flagsOk r) 12 accepted (later-passed (eqb l (lengthAsked st r)) 11 flags rest),
+        eqb-true l (length_asked st r) (passed (eqb l (length_asked st r)) 11 flags rest),
+        passed (flags_ok r) 12 accepted (later-passed (eqb l (length_asked st r)) 11 flags rest),
       )
 
 -- ---- a block in form
@@ -45,21 +45,21 @@ module _ (st : Standing) (l : ℕ) (r : Record) where
 pub record BlockOk (st : Standing) (l : ℕ) : Type 0 where
   pub some : 1 ≤ st.num_capture_channels
   pub few : st.num_capture_channels ≤ 4
-  pub long : l ≡ blockLength st.num_capture_channels
+  pub long : l ≡ block_length st.num_capture_channels
 
-pub block-ok : (st : Standing) (l : ℕ) (b : BlockRecord) → formRefusal st l (block b) ≡ accepted → BlockOk st l
-unfolding placeRefusal lengthAsked
+pub block-ok : (st : Standing) (l : ℕ) (b : BlockRecord) → form_refusal st l (block b) ≡ accepted → BlockOk st l
+unfolding place_refusal length_asked
 block-ok st l b e =
     let (place, long, _) = in-form st l (block b) e in
     let standing = passed (stands st) 21 accepted place in
     record { some = from-lo 1 4 st.num_capture_channels standing; few = to-hi 1 4 st.num_capture_channels standing; long = long }
 
 -- an accepted reset has settings before it
-pub reset-stands : (st : Standing) (l flag : ℕ) → recordRefusal st l (reset flag) ≡ accepted → stands st ≡ true
-unfolding placeRefusal
+pub reset-stands : (st : Standing) (l flag : ℕ) → record_refusal st l (reset flag) ≡ accepted → stands st ≡ true
+unfolding place_refusal
 reset-stands st l flag e = passed (stands st) 21 accepted (in-form st l (reset flag) (both-passed st l (reset flag) e).0).0
 
 -- and no unknown record is accepted
-pub unknown-refused : (st : Standing) (l : ℕ) → recordRefusal st l unknown ≡ accepted → ⊥
-unfolding placeRefusal
+pub unknown-refused : (st : Standing) (l : ℕ) → record_refusal st l unknown ≡ accepted → ⊥
+unfolding place_refusal
 unknown-refused st l e = omega (arith, (in-form st l unknown (both-passed st l unknown e).0).0)

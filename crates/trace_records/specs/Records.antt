@@ -4,7 +4,7 @@ use Rattle.std.specs.Float.{binary32}
 use Rattle.std.specs.Float.Ieee.{of_bits}
 use Rattle.aec3_common.specs.declared.settings.ErleSettings.{ErleSettings}
 use Rattle.aec3_common.specs.Lists.{tab}
-use Rattle.encoding.specs.Bytes.{byte_at, halfAt, word_at}
+use Rattle.encoding.specs.Bytes.{byte_at, half_at, word_at}
 use Rattle.trace_records.specs.declared.records.SettingsRecord.{SettingsRecord}
 use Rattle.trace_records.specs.declared.judge.Standing.{Standing}
 
@@ -19,7 +19,7 @@ pub record BlockRecord : Type 0 where
 pub data Record : Type 0 where
   settings : SettingsRecord → Record
   block : BlockRecord → Record
-  reset : (delayFlag : ℕ) → Record
+  reset : (delay_flag : ℕ) → Record
   unknown : Record
 
 -- ---- single numbers
@@ -34,8 +34,8 @@ is_set b = eqb b 1
 
 -- ---- settings: min, max_l, max_h, capture channels, onset flag, startup count, printed band
 
-unfoldable pub settingsIn : List ℕ → SettingsRecord
-settingsIn r =
+unfoldable pub settings_in : List ℕ → SettingsRecord
+settings_in r =
     record {
       min = value_at r 2;
       max_l = value_at r 6;
@@ -48,8 +48,8 @@ settingsIn r =
 
 -- The settings of the estimator that they start. There is one section, so that filter length and headroom change no figure. The quality
 -- clamps change none that is printed.
-unfoldable pub erleSettings : SettingsRecord → ErleSettings
-erleSettings s =
+unfoldable pub erle_settings : SettingsRecord → ErleSettings
+erle_settings s =
     record {
       min = s.min;
       max_l = s.max_l;
@@ -65,67 +65,67 @@ erleSettings s =
 
 -- ---- a block of n channels: a converged flag for each, render power, and of each channel capture power, then residual power
 
-abbrev pub convergedByte : List ℕ → ℕ → ℕ
-convergedByte r ch = byte_at r (2 + ch)
+abbrev pub converged_byte : List ℕ → ℕ → ℕ
+converged_byte r ch = byte_at r (2 + ch)
 
-unfoldable pub flagsIn : ℕ → List ℕ → List ℕ
-flagsIn n r = tab n (convergedByte r)
+unfoldable pub flags_in : ℕ → List ℕ → List ℕ
+flags_in n r = tab n (converged_byte r)
 
 -- 65 numbers of four bytes, from place i on
-unfoldable pub spectrumAt : List ℕ → ℕ → List Float
-spectrumAt r i = tab 65 (λ k. value_at r (i + 4 * k))
+unfoldable pub spectrum_at : List ℕ → ℕ → List Float
+spectrum_at r i = tab 65 (λ k. value_at r (i + 4 * k))
 
 -- render power begins behind the flags
-abbrev pub renderPlace : ℕ → ℕ
-renderPlace n = 2 + n
+abbrev pub render_place : ℕ → ℕ
+render_place n = 2 + n
 
-unfoldable pub renderIn : ℕ → List ℕ → List Float
-renderIn n r = spectrumAt r (renderPlace n)
+unfoldable pub render_in : ℕ → List ℕ → List Float
+render_in n r = spectrum_at r (render_place n)
 
 -- One spectrum of each of n channels, channel by channel. Channel 0's is at place i. Each channel has two in the record, so that
 -- the next channel's is 520 bytes on.
-unfoldable pub spectraAt : ℕ → List ℕ → ℕ → List Float
-spectraAt n r i = tab (n * 65) (λ k. value_at r (i + k / 65 * 520 + 4 * (k % 65)))
+unfoldable pub spectra_at : ℕ → List ℕ → ℕ → List Float
+spectra_at n r i = tab (n * 65) (λ k. value_at r (i + k / 65 * 520 + 4 * (k % 65)))
 
 -- capture power of channel 0 begins behind render power, and its residual power behind that
-abbrev pub capturePlace : ℕ → ℕ
-capturePlace n = renderPlace n + 260
+abbrev pub capture_place : ℕ → ℕ
+capture_place n = render_place n + 260
 
-abbrev pub residualPlace : ℕ → ℕ
-residualPlace n = capturePlace n + 260
+abbrev pub residual_place : ℕ → ℕ
+residual_place n = capture_place n + 260
 
-unfoldable pub captureIn : ℕ → List ℕ → List Float
-captureIn n r = spectraAt n r (capturePlace n)
+unfoldable pub capture_in : ℕ → List ℕ → List Float
+capture_in n r = spectra_at n r (capture_place n)
 
-unfoldable pub residualIn : ℕ → List ℕ → List Float
-residualIn n r = spectraAt n r (residualPlace n)
+unfoldable pub residual_in : ℕ → List ℕ → List Float
+residual_in n r = spectra_at n r (residual_place n)
 
-unfoldable pub blockIn : ℕ → List ℕ → BlockRecord
-blockIn n r = record { flags = flagsIn n r; render = renderIn n r; capture = captureIn n r; residual = residualIn n r }
+unfoldable pub block_in : ℕ → List ℕ → BlockRecord
+block_in n r = record { flags = flags_in n r; render = render_in n r; capture = capture_in n r; residual = residual_in n r }
 
 -- ---- a reset: whether the delay changed
 
-abbrev pub delayFlagIn : List ℕ → ℕ
-delayFlagIn r = byte_at r 2
+abbrev pub delay_flag_in : List ℕ → ℕ
+delay_flag_in r = byte_at r 2
 
 -- ---- a record
 
 abbrev pub kind_of : List ℕ → ℕ
-kind_of r = halfAt r 0
+kind_of r = half_at r 0
 
-abbrev pub settingsKind : ℕ
-settingsKind = 0x0001
+abbrev pub settings_kind : ℕ
+settings_kind = 0x0001
 
-abbrev pub blockKind : ℕ
-blockKind = 0x0002
+abbrev pub block_kind : ℕ
+block_kind = 0x0002
 
-abbrev pub resetKind : ℕ
-resetKind = 0x0003
+abbrev pub reset_kind : ℕ
+reset_kind = 0x0003
 
 -- the record that bytes hold: a block has the channels of the settings that stand
 unfoldable pub decoded : Standing → List ℕ → Record
 decoded st r =
-    cond (eqb (kind_of r) settingsKind) (settings (settingsIn r))
-    (cond (eqb (kind_of r) blockKind) (block (blockIn st.num_capture_channels r))
-    (cond (eqb (kind_of r) resetKind) (reset (delayFlagIn r))
+    cond (eqb (kind_of r) settings_kind) (settings (settings_in r))
+    (cond (eqb (kind_of r) block_kind) (block (block_in st.num_capture_channels r))
+    (cond (eqb (kind_of r) reset_kind) (reset (delay_flag_in r))
     unknown))

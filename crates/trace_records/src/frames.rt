@@ -1,6 +1,6 @@
 // The record that a slice of bytes begins with.
 ghost use Rattle.std.specs.Prelude.{◌≡◌, ◌≤◌};
-ghost use Rattle.trace_records.specs.Frames.{frameLength, length_of};
+ghost use Rattle.trace_records.specs.Frames.{frame_length, length_of};
 
 use encoding::word_at;
 
@@ -31,7 +31,7 @@ pub fn length_of(s: &[u8]) -> usize
 
 // The L of a record that is there whole, or 0.
 pub fn frame_length(s: &[u8]) -> usize
-    ensures { result ≡ frameLength s.now }
+    ensures { result ≡ frame_length s.now }
 {
     let length = length_of(s);
     if s.len() < LENGTH_SIZE + length {

@@ -1,8 +1,8 @@
 // Which number turns a record away, or 0.
 ghost use Rattle.std.specs.Prelude.{◌≡◌, ◌≤◌, length};
 ghost use Rattle.aec3_common.specs.Lists.{every};
-ghost use Rattle.trace_records.specs.Records.{settings as Record·settings, block as Record·block, reset as Record·reset, flagsIn, blockIn, decoded};
-ghost use Rattle.trace_records.specs.Judge.{nothingStands, standingAfter, blockLength, flagOk, flagsOk, formRefusal, valueRefusal, recordRefusal, refusalIn, mayGoOn, refusalAhead};
+ghost use Rattle.trace_records.specs.Records.{settings as Record·settings, block as Record·block, reset as Record·reset, flags_in, block_in, decoded};
+ghost use Rattle.trace_records.specs.Judge.{nothing_stands, standing_after, block_length, flag_ok, flags_ok, form_refusal, value_refusal, record_refusal, refusal_in, may_go_on, refusal_ahead};
 
 use crate::frames::{LENGTH_SIZE, frame_length, length_of};
 use crate::records::{
@@ -26,7 +26,7 @@ pub struct Standing {
 impl Standing {
     // Before the first record.
     pub fn nothing() -> Self
-        ensures { result ≡ nothingStands }
+        ensures { result ≡ nothing_stands }
     {
         Standing {
             num_capture_channels: 0,
@@ -34,9 +34,9 @@ impl Standing {
     }
 
     // After a record that is accepted.
-    #[tactic(auto, unfolding(crate::specs::Judge::standingAfter, crate::specs::Steps::recordFrom))]
+    #[tactic(auto, unfolding(crate::specs::Judge::standing_after, crate::specs::Steps::record_from))]
     pub fn after(self, record: &[u8]) -> Self
-        ensures { result ≡ standingAfter self (decoded self «record».now) }
+        ensures { result ≡ standing_after self (decoded self «record».now) }
     {
         let decoded = decode(record);
         match decoded {
@@ -51,15 +51,15 @@ impl Standing {
 }
 
 fn flag_ok(flag: u32) -> bool
-    ensures { result ≡ flagOk flag }
+    ensures { result ≡ flag_ok flag }
 {
     flag <= 1
 }
 
 // Number 13 of settings: the onset flag and the printed band.
-#[tactic(auto, unfolding(crate::specs::Judge::flagsOk))]
+#[tactic(auto, unfolding(crate::specs::Judge::flags_ok))]
 fn flag_and_band_ok(settings: SettingsRecord) -> bool
-    ensures { result ≡ flagsOk (Record·settings settings) }
+    ensures { result ≡ flags_ok (Record·settings settings) }
 {
     flag_ok(settings.onset_flag) & (settings.band <= FFT_LENGTH_BY_2)
 }
@@ -67,7 +67,7 @@ fn flag_and_band_ok(settings: SettingsRecord) -> bool
 // Number 13 of a block: the converged flags.
 fn converged_flags_ok(record: &[u8], num_capture_channels: usize) -> bool
     requires { num_capture_channels ≤ 4 }
-    ensures { result ≡ every flagOk (flagsIn num_capture_channels «record».now) }
+    ensures { result ≡ every flag_ok (flags_in num_capture_channels «record».now) }
 {
     let mut ok = true;
     for ch in 0..num_capture_channels {
@@ -78,7 +78,7 @@ fn converged_flags_ok(record: &[u8], num_capture_channels: usize) -> bool
 
 // Of a settings record with such an L: the first of 23, 12, 13, 1 and 2, or 0.
 fn settings_refusal(standing: Standing, length: usize, settings: SettingsRecord) -> u32
-    ensures { result ≡ recordRefusal standing length (Record·settings settings) }
+    ensures { result ≡ record_refusal standing length (Record·settings settings) }
 {
     if capture_channels_ok(standing.num_capture_channels) {
         SECOND_SETTINGS
@@ -98,7 +98,7 @@ fn settings_refusal(standing: Standing, length: usize, settings: SettingsRecord)
 
 // Of a block, whose values are not looked at: the first of 22, 12 and 13, or 0.
 pub fn block_form_refusal(standing: Standing, record: &[u8]) -> u32
-    ensures { result ≡ formRefusal standing (length «record».now) (Record·block (blockIn standing.num_capture_channels «record».now)) }
+    ensures { result ≡ form_refusal standing (length «record».now) (Record·block (block_in standing.num_capture_channels «record».now)) }
 {
     if !capture_channels_ok(standing.num_capture_channels) {
         NO_SETTINGS
@@ -113,7 +113,7 @@ pub fn block_form_refusal(standing: Standing, record: &[u8]) -> u32
 
 // Of a reset with such an L: the first of 22, 12 and 13, or 0.
 fn reset_refusal(standing: Standing, length: usize, delay_flag: u32) -> u32
-    ensures { result ≡ recordRefusal standing length (Record·reset delay_flag) }
+    ensures { result ≡ record_refusal standing length (Record·reset delay_flag) }
 {
     if !capture_channels_ok(standing.num_capture_channels) {
         NO_SETTINGS
@@ -129,8 +129,8 @@ fn reset_refusal(standing: Standing, length: usize, delay_flag: u32) -> u32
 // Of the values of a block in form: 6, or 0.
 fn block_values_refusal(num_capture_channels: usize, record: &[u8]) -> u32
     requires num_capture_channels_bound { num_capture_channels ≤ 4 }
-    requires record_len { length «record».now ≡ blockLength num_capture_channels }
-    ensures { result ≡ valueRefusal (Record·block (blockIn num_capture_channels «record».now)) }
+    requires record_len { length «record».now ≡ block_length num_capture_channels }
+    ensures { result ≡ value_refusal (Record·block (block_in num_capture_channels «record».now)) }
 {
     let mut values = [0.0f32; MOST_VALUES];
     if read_block(record, num_capture_channels, &mut values) {
@@ -142,7 +142,7 @@ fn block_values_refusal(num_capture_channels: usize, record: &[u8]) -> u32
 
 // Of a block: the first of 22, 12, 13 and 6, or 0.
 fn block_refusal(standing: Standing, record: &[u8]) -> u32
-    ensures { result ≡ recordRefusal standing (length «record».now) (Record·block (blockIn standing.num_capture_channels «record».now)) }
+    ensures { result ≡ record_refusal standing (length «record».now) (Record·block (block_in standing.num_capture_channels «record».now)) }
 {
     let form = block_form_refusal(standing, record);
     if form != ACCEPTED {
@@ -154,7 +154,7 @@ fn block_refusal(standing: Standing, record: &[u8]) -> u32
 
 // Of any record: the first of all numbers under which it is turned away, or 0.
 pub fn record_refusal(standing: Standing, record: &[u8]) -> u32
-    ensures { result ≡ refusalIn standing «record».now }
+    ensures { result ≡ refusal_in standing «record».now }
 {
     let decoded = decode(record);
     match decoded {
@@ -167,7 +167,7 @@ pub fn record_refusal(standing: Standing, record: &[u8]) -> u32
 
 // Whether bytes that begin with no whole record are no fault: there are none, or they may be the front of one.
 fn may_go_on(s: &[u8], ended: bool) -> bool
-    ensures { result ≡ mayGoOn ended s.now }
+    ensures { result ≡ may_go_on ended s.now }
 {
     if s.len() == 0 {
         true
@@ -183,7 +183,7 @@ fn may_go_on(s: &[u8], ended: bool) -> bool
 // Of the bytes that are yet to be read, told whether the trace has ended with them: the number of the record that they begin with; 10 where
 // they begin with none that is or may become whole; or 0.
 pub fn refusal_ahead(standing: Standing, s: &[u8], ended: bool) -> u32
-    ensures { result ≡ refusalAhead standing ended s.now }
+    ensures { result ≡ refusal_ahead standing ended s.now }
 {
     let length = frame_length(s);
     if length > 0 {

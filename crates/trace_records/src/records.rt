@@ -4,9 +4,9 @@ ghost use Rattle.std.specs.Float.{binary32};
 ghost use Rattle.std.specs.Float.Ieee.{of_bits};
 ghost use Rattle.encoding.specs.Bytes.{byte_at};
 ghost use Rattle.trace_records.specs.declared.judge.Standing.{Standing};
-ghost use Rattle.trace_records.specs.Records.{is_set, value_at, settingsIn, erleSettings, decoded};
-ghost use Rattle.trace_records.specs.Judge.{blockLength};
-ghost use Rattle.trace_records.specs.Steps.{recordFrom, flagTable, BlockRead};
+ghost use Rattle.trace_records.specs.Records.{is_set, value_at, settings_in, erle_settings, decoded};
+ghost use Rattle.trace_records.specs.Judge.{block_length};
+ghost use Rattle.trace_records.specs.Steps.{record_from, flag_table, BlockRead};
 
 use aec3_common::ErleSettings;
 use aec3_common::binary32::{GREATEST_VALUE, is_within};
@@ -56,9 +56,9 @@ fn value_at(record: &[u8], place: usize) -> f32
     float_of(word_at(record, place))
 }
 
-#[tactic(auto, unfolding(crate::specs::Records::settingsIn))]
+#[tactic(auto, unfolding(crate::specs::Records::settings_in))]
 fn settings_in(record: &[u8]) -> SettingsRecord
-    ensures { result ≡ settingsIn «record».now }
+    ensures { result ≡ settings_in «record».now }
 {
     SettingsRecord {
         min: value_at(record, 2),
@@ -73,7 +73,7 @@ fn settings_in(record: &[u8]) -> SettingsRecord
 
 // The record that bytes hold, whatever stands.
 pub fn decode(record: &[u8]) -> Decoded
-    ensures { (standing : Standing) → recordFrom standing «record».now result ≡ decoded standing «record».now }
+    ensures { (standing : Standing) → record_from standing «record».now result ≡ decoded standing «record».now }
 {
     let kind = half_at(record, 0);
     if kind == SETTINGS_KIND {
@@ -88,9 +88,9 @@ pub fn decode(record: &[u8]) -> Decoded
 }
 
 // The settings of the estimator that a settings record starts, which has one section.
-#[tactic(auto, unfolding(crate::specs::Records::erleSettings))]
+#[tactic(auto, unfolding(crate::specs::Records::erle_settings))]
 pub fn erle_settings(settings: SettingsRecord) -> ErleSettings
-    ensures { result ≡ erleSettings settings }
+    ensures { result ≡ erle_settings settings }
 {
     ErleSettings {
         min: settings.min,
@@ -109,14 +109,14 @@ pub fn erle_settings(settings: SettingsRecord) -> ErleSettings
 // The L of a block, for a count of channels that is in its range.
 pub(crate) fn block_length(num_capture_channels: usize) -> usize
     requires { num_capture_channels ≤ 4 }
-    ensures { result ≡ blockLength num_capture_channels }
+    ensures { result ≡ block_length num_capture_channels }
 {
     262 + 521 * num_capture_channels
 }
 
 // The converged flags in a table. Channels that the block does not have stand there too, as not converged.
 pub fn flags_in(record: &[u8], num_capture_channels: usize) -> [bool; 4]
-    ensures { result ≡ flagTable num_capture_channels «record».now }
+    ensures { result ≡ flag_table num_capture_channels «record».now }
 {
     let mut flags = [false; 4];
     for ch in 0..4 {
@@ -145,7 +145,7 @@ pub fn read_block(
     num_capture_channels: usize,
     values: &mut [f32; MOST_VALUES],
 ) -> bool
-    requires { (length «record».now ≡ blockLength num_capture_channels) × (num_capture_channels ≤ 4) × (length values.old ≡ 585) }
+    requires { (length «record».now ≡ block_length num_capture_channels) × (num_capture_channels ≤ 4) × (length values.old ≡ 585) }
     ensures { BlockRead num_capture_channels «record».now values.new result }
 {
     let place = 2 + num_capture_channels;

@@ -8,46 +8,46 @@ use borrow.Author.Tests.{ltb-true, eqb-true}
 use lib.Dec.{eqb, ltb}
 use lib.ListN.{drop}
 use Rattle.aec3_common.specs.Refusal.{accepted}
-use Rattle.trace_records.specs.Frames.{lengthIn, framed, recordIn}
-use Rattle.trace_records.specs.Judge.{refusalAhead}
+use Rattle.trace_records.specs.Frames.{length_in, framed, record_in}
+use Rattle.trace_records.specs.Judge.{refusal_ahead}
 use Rattle.trace_text.specs.Text.{Item}
 use Rattle.trace_state.specs.declared.Trace.{Trace}
 use Rattle.trace_state.specs.declared.Stop.TheVariants.{NoRoom, Refused}
-use Rattle.trace_state.specs.Apply.{channelsOf, standingOf, beginning, traceOk, next_of}
-use Rattle.trace_state.specs.Listing.{recordAt, refusalAt, refusedAt}
-use Rattle.trace_state.specs.Feed.{rowDue, taken, turnedAway, withRowsDue, firstDue, Walk, Stopped, withLine, findsRoom, refusedEnd, turnBy, goOn, turn_of, turns, feedFrom, fed}
+use Rattle.trace_state.specs.Apply.{channels_of, standing_of, beginning, trace_ok, next_of}
+use Rattle.trace_state.specs.Listing.{record_at, refusal_at, refused_at}
+use Rattle.trace_state.specs.Feed.{row_due, taken, turned_away, with_rows_due, first_due, Walk, Stopped, with_line, finds_room, refused_end, turn_by, go_on, turn_of, turns, feed_from, fed}
 use Rattle.trace_state.proofs.Running.{Sound, sound-ok, sound-beginning, sound-next, due-next}
 use Rattle.trace_state.proofs.Turning.{next-is}
 
 -- a state that a run from the beginning comes to
 pub record Stays (t : Trace) : Type 0 where
-  pub due : t.rows_due ≤ channelsOf t.estimator
+  pub due : t.rows_due ≤ channels_of t.estimator
   pub sound : Sound t.estimator
 
 pub stays-beginning : Stays beginning
 unfolding beginning
 stays-beginning = record { due = omega arith; sound = sound-beginning }
 
-pub stays-ok : {t : Trace} → Stays t → traceOk t ≡ true
+pub stays-ok : {t : Trace} → Stays t → trace_ok t ≡ true
 stays-ok {t} stays = sound-ok t stays.due stays.sound
 
 -- a refusal leaves the state
-stays-refused : (w : Walk) (n : ℕ) → Stays w.state → Stays (refusedEnd w n).walk.state
-unfolding refusedEnd
-stays-refused w n stays = go (findsRoom w (refusedAt w.state n))
+stays-refused : (w : Walk) (n : ℕ) → Stays w.state → Stays (refused_end w n).walk.state
+unfolding refused_end
+stays-refused w n stays = go (finds_room w (refused_at w.state n))
   where
     go :
         (b : Bool)
-        → Stays (cond {A = Stopped} b (record { walk = withLine w (refusedAt w.state n) w.state; stop = Refused n }) (record { walk = w; stop = NoRoom })).walk.state
+        → Stays (cond {A = Stopped} b (record { walk = with_line w (refused_at w.state n) w.state; stop = Refused n }) (record { walk = w; stop = NoRoom })).walk.state
     go true = stays
     go false = stays
 
 module _ (s : List ℕ) (ended : Bool) where
   stays-turns : (k : ℕ) (w : Walk) → Stays w.state → Stays (turns s ended k w).walk.state
-  unfolding turns turnBy goOn refusalAhead
+  unfolding turns turn_by go_on refusal_ahead
   stays-turns zero w stays = stays
   stays-turns (suc k) w stays =
-      go (λ next stays. stays-turns k next stays) (ltb 0 t.rows_due) refl (eqb (refusalAhead (standingOf t) ended rest) accepted) refl (framed rest) refl
+      go (λ next stays. stays-turns k next stays) (ltb 0 t.rows_due) refl (eqb (refusal_ahead (standing_of t) ended rest) accepted) refl (framed rest) refl
     where
       Later : Type 0
       Later = (next : Walk) → Stays next.state → Stays (turns s ended k next).walk.state
@@ -59,25 +59,25 @@ module _ (s : List ℕ) (ended : Bool) where
       rest = drop w.used s
 
       row : Item
-      row = firstDue t
+      row = first_due t
 
-      by-row : Later → (fits : Bool) → findsRoom w row ≡ fits → 0 < t.rows_due → Stays (goOn (turns s ended k) (turnBy w (rowDue row (withRowsDue t (t.rows_due - 1))))).walk.state
-      by-row later true fits some = rw fits (later (withLine w row (withRowsDue t (t.rows_due - 1))) (record { due = omega (arith, stays.due); sound = stays.sound }))
+      by-row : Later → (fits : Bool) → finds_room w row ≡ fits → 0 < t.rows_due → Stays (go_on (turns s ended k) (turn_by w (row_due row (with_rows_due t (t.rows_due - 1))))).walk.state
+      by-row later true fits some = rw fits (later (with_line w row (with_rows_due t (t.rows_due - 1))) (record { due = omega (arith, stays.due); sound = stays.sound }))
       by-row later false fits some = rw fits stays
 
       go :
-          Later → (due : Bool) → ltb 0 t.rows_due ≡ due → (passes : Bool) → eqb (refusalAhead (standingOf t) ended rest) accepted ≡ passes
-          → (there : Bool) → framed rest ≡ there → Stays (goOn (turns s ended k) (turn_of s ended w)).walk.state
-      go later true p passes q there r = rw (next-is t ended rest true passes there p q r) (by-row later (findsRoom w row) refl (ltb-true 0 t.rows_due p))
+          Later → (due : Bool) → ltb 0 t.rows_due ≡ due → (passes : Bool) → eqb (refusal_ahead (standing_of t) ended rest) accepted ≡ passes
+          → (there : Bool) → framed rest ≡ there → Stays (go_on (turns s ended k) (turn_of s ended w)).walk.state
+      go later true p passes q there r = rw (next-is t ended rest true passes there p q r) (by-row later (finds_room w row) refl (ltb-true 0 t.rows_due p))
       go later false p true q true r =
-          let ok : refusalAt t (recordIn rest) ≡ accepted = eqb-true _ _ (rw r at q) in
+          let ok : refusal_at t (record_in rest) ≡ accepted = eqb-true _ _ (rw r at q) in
           rw (next-is t ended rest false true true p q r)
-          (later _ (record { due = due-next t (recordIn rest) ok; sound = sound-next t (recordIn rest) stays.sound ok }))
+          (later _ (record { due = due-next t (record_in rest) ok; sound = sound-next t (record_in rest) stays.sound ok }))
       go later false p true q false r = rw (next-is t ended rest false true false p q r) stays
-      go later false p false q there r = rw (next-is t ended rest false false there p q r) (stays-refused w (refusalAhead (standingOf t) ended rest) stays)
+      go later false p false q there r = rw (next-is t ended rest false false there p q r) (stays-refused w (refusal_ahead (standing_of t) ended rest) stays)
 
 pub stays-fed : (t : Trace) (s : List ℕ) (ended : Bool) (d : List ℕ) (at : ℕ) → Stays t → Stays (fed t s ended d at).walk.state
-unfolding fed feedFrom
+unfolding fed feed_from
 stays-fed t s ended d at stays =
     let w : Walk = record { state = t; used = 0; out = d; at = at } in
     rw (stays-ok stays) (stays-turns s ended _ w stays)

@@ -1,8 +1,8 @@
 // The first state, number 20, and what a record that is accepted does to the state.
 ghost use Rattle.std.specs.Prelude.{◌≡◌, false};
 ghost use Rattle.trace_records.specs.Records.{settings as Record·settings, reset as Record·reset};
-ghost use Rattle.trace_state.specs.Apply.{beginning as Apply·beginning, traceOk, next_of, isBlock};
-ghost use Rattle.trace_state.specs.Listing.{recordAt};
+ghost use Rattle.trace_state.specs.Apply.{beginning as Apply·beginning, trace_ok, next_of, is_block};
+ghost use Rattle.trace_state.specs.Listing.{record_at};
 ghost use Rattle.trace_state.specs.Along.{JudgedAlone};
 
 use crate::Trace;
@@ -38,9 +38,9 @@ pub fn beginning() -> Trace
 }
 
 // Whether number 20 lets the state pass.
-#[tactic(auto, unfolding(crate::specs::Apply::traceOk))]
+#[tactic(auto, unfolding(crate::specs::Apply::trace_ok))]
 pub fn state_ok(t: Trace) -> bool
-    ensures { result ≡ traceOk t }
+    ensures { result ≡ trace_ok t }
 {
     let settings = t.estimator.settings;
     if settings.num_capture_channels < t.rows_due {
@@ -86,8 +86,8 @@ fn after_reset(t: Trace, delay_flag: u32) -> Trace
 // The state after a record that is no block, by its kind. An unknown one does nothing, and is never accepted. (Of a block, which is asked of
 // `trace_blocks`, nothing is done here.)
 pub fn after_record(t: Trace, record: &[u8]) -> Trace
-    requires { isBlock (recordAt t «record».now) ≡ false }
-    ensures { result ≡ next_of t (recordAt t «record».now) }
+    requires { is_block (record_at t «record».now) ≡ false }
+    ensures { result ≡ next_of t (record_at t «record».now) }
 {
     let decoded = decode(record);
     match decoded {

@@ -26,10 +26,10 @@ pub line-short : (i : Item) → length (line i) ≤ 49
 unfolding line line_of spaced
 line-short (row block channel plain compensated uncapped) =
     simp length-append (omega (arith, length-decimal block, length-decimal channel, length-figure plain, length-figure compensated, length-figure uncapped))
-line-short (refused number recordNumber) = simp length-append (omega (arith, length-decimal number, length-decimal recordNumber))
+line-short (refused number record_number) = simp length-append (omega (arith, length-decimal number, length-decimal record_number))
 
 -- and each has its line feed at least
 pub line-some : (i : Item) → 1 ≤ length (line i)
 unfolding line line_of
 line-some (row block channel plain compensated uncapped) = simp length-append (omega arith)
-line-some (refused number recordNumber) = simp length-append (omega arith)
+line-some (refused number record_number) = simp length-append (omega arith)

@@ -8,7 +8,7 @@ use Rattle.encoding.specs.Text.{ascii, decimal, hex8}
 -- figure; or that a record is refused, with the refusal's number and the record's number in the trace.
 pub data Item : Type 0 where
   row : (block channel : ℕ) (plain compensated uncapped : Float) → Item
-  refused : (number recordNumber : ℕ) → Item
+  refused : (number record_number : ℕ) → Item
 
 -- a figure: its bits as eight capital hexadecimal digits
 unfoldable pub figure : Float → List ℕ
@@ -32,7 +32,7 @@ header = line_of (ascii "block" ∷ ascii "channel" ∷ ascii "plain" ∷ ascii 
 unfoldable pub line : Item → List ℕ
 line (row block channel plain compensated uncapped) =
     line_of (decimal block ∷ decimal channel ∷ figure plain ∷ figure compensated ∷ figure uncapped ∷ [])
-line (refused number recordNumber) = line_of (ascii "refused" ∷ decimal number ∷ ascii "at" ∷ decimal recordNumber ∷ [])
+line (refused number record_number) = line_of (ascii "refused" ∷ decimal number ∷ ascii "at" ∷ decimal record_number ∷ [])
 
 -- the lines of items, one after the other
 unfoldable pub lines : List Item → List ℕ

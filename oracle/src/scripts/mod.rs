@@ -35,6 +35,8 @@ pub struct Name {
     pub program: Program,
     /// Whether the program is asked to show what the whole ERLE estimator holds.
     pub state: bool,
+    /// Whether the program gets its input in pieces of many sizes.
+    pub pieces: bool,
     make: fn() -> Vec<Maker>,
 }
 
@@ -44,7 +46,16 @@ impl Name {
             name,
             program,
             state: false,
+            pieces: false,
             make,
+        }
+    }
+
+    /// The same name, for a program that gets its input in pieces.
+    const fn in_pieces(self) -> Self {
+        Self {
+            pieces: true,
+            ..self
         }
     }
 
@@ -63,7 +74,7 @@ impl Name {
     }
 }
 
-pub const NAMES: [Name; 19] = [
+pub const NAMES: [Name; 20] = [
     Name::new("log2", Program::Replay, || vec![Box::new(leaves::log2)]),
     Name::new("ring", Program::Replay, || vec![Box::new(leaves::ring)]),
     Name::new("sections", Program::Replay, || {
@@ -99,6 +110,7 @@ pub const NAMES: [Name; 19] = [
     Name::new("trace_damaged", Program::TracePrinter, || {
         made(trace::damaged_traces())
     }),
+    Name::new("trace_pieces", Program::TracePrinter, trace::in_pieces).in_pieces(),
 ];
 
 pub fn named(name: &str) -> Option<&'static Name> {

@@ -27,6 +27,12 @@ const STARTUPS: [u32; 4] = [0, 1, 2, 5];
 /// How many random traces there are.
 const RANDOM: u64 = 3_000;
 
+/// How many random traces arrive in pieces.
+const PIECEWISE: u64 = 400;
+
+/// How far apart the ends are at which the example is cut that arrives in pieces.
+const CUT_STEP: usize = 19;
+
 /// Document 01's example.
 pub fn sample() -> Script {
     let mut script = settled(&EXAMPLE);
@@ -71,6 +77,16 @@ pub fn longer() -> Vec<Maker> {
         }
     }
     makers.push(Box::new(longer::many_blocks));
+    makers
+}
+
+/// Traces that arrive in pieces: random ones beside those of `random`, and the example with its end cut off at many places.
+pub fn in_pieces() -> Vec<Maker> {
+    let maker = |seed| -> Maker { Box::new(move || random::trace(seed)) };
+    let mut makers: Vec<Maker> = (RANDOM..RANDOM + PIECEWISE).map(maker).collect();
+    let sample = sample();
+    let ends = (1..=sample.bytes.len()).step_by(CUT_STEP);
+    makers.extend(made(ends.map(|end| sample.cut(end)).collect()));
     makers
 }
 

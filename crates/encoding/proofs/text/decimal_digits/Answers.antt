@@ -1,10 +1,10 @@
 use Rattle.std.proofs.Common.{refl, ◌∙◌, rules, arith}
-use Rattle.encoding.specs.Text.{decimalDigits}
+use Rattle.encoding.specs.Text.{decimal_digits}
 use Rattle.encoding.proofs.Digits.{spelt-more, spelt-all, decimal-last, decimal-short, decimal-none}
 use Rattle.encoding.proofs.text.decimal_digits.Goals as goal
 
 pub loop-from-init : goal.loop-from-init
-unfolding decimalDigits
+unfolding decimal_digits
 loop-from-init c = record { long = refl; within = search rules; whole = rw c.digit_of.ensures }
 
 pub loop-from-preserved : goal.loop-from-preserved

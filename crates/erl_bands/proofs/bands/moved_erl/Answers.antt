@@ -4,7 +4,7 @@ use Rattle.aec3_common.specs.Binary32.{zero32}
 use Rattle.aec3_common.specs.Lists.{tab}
 use Rattle.aec3_common.proofs.Loops.{loops}
 use Rattle.aec3_common.proofs.Tables.{stored_more, stored-inner}
-use Rattle.erl_bands.specs.Steps.{erlsBy}
+use Rattle.erl_bands.specs.Steps.{erls_by}
 use Rattle.erl_bands.proofs.Steps.{beside_same}
 use Rattle.erl_bands.proofs.bands.moved_erl.Goals as goal
 
@@ -19,5 +19,5 @@ loop-k-preserved c =
     (c.erl_after.ensures ∙ simp (to_z-of_z fits))
 
 pub returns : goal.returns
-unfolding erlsBy
+unfolding erls_by
 returns c = stored-inner c.loop-k.invariant c.loop-k-test.false ∙ beside_same _ zero32

@@ -3,7 +3,7 @@ use lib.ListN.{get_or}
 use Rattle.aec3_common.proofs.Holds.{read_back}
 use Rattle.aec3_common.proofs.Loops.{loops}
 use Rattle.aec3_common.proofs.Tables.{stored_more, stored-all}
-use Rattle.erl_bands.specs.Steps.{holdsBy}
+use Rattle.erl_bands.specs.Steps.{holds_by}
 use Rattle.erl_bands.proofs.bands.moved_holds.Goals as goal
 
 pub loop-k-init : goal.loop-k-init
@@ -18,5 +18,5 @@ loop-k-preserved c =
     ∙ simp (add-one, to_z-of_z fits))
 
 pub returns : goal.returns
-unfolding holdsBy
+unfolding holds_by
 returns c = stored-all c.loop-k.invariant c.loop-k-test.false

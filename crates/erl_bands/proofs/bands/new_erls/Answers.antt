@@ -1,5 +1,5 @@
 use Rattle.aec3_common.proofs.Loops.{loops}
-use Rattle.erl_bands.specs.Steps.{newErls}
+use Rattle.erl_bands.specs.Steps.{new_erls}
 use Rattle.erl_bands.proofs.bands.new_erls.Goals as goal
 
 pub loop-k-init : goal.loop-k-init
@@ -9,5 +9,5 @@ pub loop-k-preserved : goal.loop-k-preserved
 loop-k-preserved c = search loops
 
 pub returns : goal.returns
-unfolding newErls
+unfolding new_erls
 returns c = search loops

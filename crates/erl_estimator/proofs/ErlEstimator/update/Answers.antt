@@ -1,5 +1,5 @@
 use Rattle.std.proofs.Common.{◌∙◌, sym, eq-eqb, ne_eqb}
-use Rattle.erl_estimator.specs.Erl.{updateAnswer}
+use Rattle.erl_estimator.specs.Erl.{update_answer}
 use Rattle.erl_estimator.proofs.Judged.{judged-renders, judged-flags, judged-render, judged-capture}
 use Rattle.erl_estimator.proofs.ErlEstimator.update.Goals as goal
 
@@ -24,10 +24,10 @@ updated-state-requires-clause-render_len c =
     (judged-render n m flags render capture ok, judged-capture n m flags render capture ok)
 
 pub returns-then-refused-eq-ACCEPTED : goal.returns-then-refused-eq-ACCEPTED
-unfolding updateAnswer
+unfolding update_answer
 returns-then-refused-eq-ACCEPTED c =
     simp (sym c.update_refusal-refused.ensures, eq-eqb _ _ c.if-refused-eq-ACCEPTED.true, c.updated-state.ensures)
 
 pub returns-else-refused-eq-ACCEPTED : goal.returns-else-refused-eq-ACCEPTED
-unfolding updateAnswer
+unfolding update_answer
 returns-else-refused-eq-ACCEPTED c = simp (sym c.update_refusal-refused.ensures, ne_eqb _ _ c.if-refused-eq-ACCEPTED.false)

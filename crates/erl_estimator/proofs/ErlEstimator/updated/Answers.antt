@@ -1,6 +1,6 @@
 use Rattle.std.proofs.Common.{◌∙◌, ◌≤◌, ◌<◌, sym, ap, subst}
 use Rattle.erl_estimator.specs.declared.ErlEstimator.{ErlEstimator}
-use Rattle.erl_estimator.specs.Erl.{learntFrom}
+use Rattle.erl_estimator.specs.Erl.{learnt_from}
 use Rattle.erl_estimator.proofs.Steps.{no-channel, first_below, from_first}
 use Rattle.erl_estimator.proofs.Updates.{updated_none, updated-below, updated-on}
 use Rattle.erl_estimator.proofs.ErlEstimator.updated.Goals as goal
@@ -27,7 +27,7 @@ pub returns-else-counted : goal.returns-else-counted
 returns-else-counted c =
     let counts = c.counted-counted.ensures in
     c.learnt_from.ensures
-    ∙ ap (λ (s : ErlEstimator). learntFrom s c.all_reduced-reduced_render.result c.reduced_from-reduced_capture.result) counts
+    ∙ ap (λ (s : ErlEstimator). learnt_from s c.all_reduced-reduced_render.result c.reduced_from-reduced_capture.result) counts
     ∙ simp (c.all_reduced-reduced_render.ensures, c.reduced_from-reduced_capture.ensures)
     (updated-on c.args.self c.args.renders c.args.converged.now c.args.render.now c.args.capture.now c.in-Channel.first _
     (from_first c.args.converged.now c.in-Channel.first (sym c.first_converged.ensures ∙ c.in-Channel.is))

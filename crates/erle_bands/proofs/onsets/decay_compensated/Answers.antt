@@ -1,10 +1,10 @@
 -- Where onset detection is off each band stays.
 use Rattle.std.proofs.Common.{◌∙◌}
 use lib.Ieee.{nan}
-use Rattle.erle_bands.specs.Steps.{allCompensatedBeside}
+use Rattle.erle_bands.specs.Steps.{all_compensated_beside}
 use Rattle.erle_bands.proofs.Bands.{bands-stay}
 use Rattle.erle_bands.proofs.onsets.decay_compensated.Goals as goal
 
 pub returns-else-on : goal.returns-else-on
-unfolding allCompensatedBeside
+unfolding all_compensated_beside
 returns-else-on c = bands-stay nan c.args.erle.now c.requires ∙ simp c.if-on.false

@@ -1,7 +1,7 @@
 use Rattle.std.proofs.Common.{pos, get_or, ◌∙◌, arith}
 use Rattle.aec3_common.proofs.Holds.{read_back}
 use Rattle.aec3_common.proofs.Tables.{stored-none, stored_more, stored-not-yet, stored-inner}
-use Rattle.erle_bands.specs.Steps.{allHoldsLess}
+use Rattle.erle_bands.specs.Steps.{all_holds_less}
 use Rattle.erle_bands.proofs.onsets.lower_all.Goals as goal
 
 pub loop-k-init : goal.loop-k-init
@@ -14,5 +14,5 @@ loop-k-preserved c =
     (read_back c.hold_less.result c.hold_less.type_inv ∙ c.hold_less.ensures ∙ simp same (simp (stored-not-yet c.loop-k.invariant)))
 
 pub returns : goal.returns
-unfolding allHoldsLess
+unfolding all_holds_less
 returns c = stored-inner c.loop-k.invariant c.loop-k-test.false

@@ -1,9 +1,9 @@
 -- Where onset detection is off each band stays.
 use Rattle.std.proofs.Common.{false, ◌∙◌}
-use Rattle.erle_bands.specs.Steps.{allWaitsBeside}
+use Rattle.erle_bands.specs.Steps.{all_waits_beside}
 use Rattle.erle_bands.proofs.Bands.{bands-stay}
 use Rattle.erle_bands.proofs.onsets.wait_again.Goals as goal
 
 pub returns-else-on : goal.returns-else-on
-unfolding allWaitsBeside
+unfolding all_waits_beside
 returns-else-on c = bands-stay false c.args.waits.now c.requires ∙ simp c.if-on.false

@@ -1,7 +1,7 @@
 use Rattle.std.proofs.Common.{pos, get_or, ◌∙◌, arith}
 use Rattle.aec3_common.proofs.Holds.{read_back}
 use Rattle.aec3_common.proofs.Tables.{stored-none, stored_more, stored-not-yet, stored-inner}
-use Rattle.erle_bands.specs.Steps.{allWaitsBeside}
+use Rattle.erle_bands.specs.Steps.{all_waits_beside}
 use Rattle.erle_bands.proofs.onsets.wait_all.Goals as goal
 
 pub loop-k-init : goal.loop-k-init
@@ -13,5 +13,5 @@ loop-k-preserved c =
     stored_more _ c.loop-k.invariant c.loop-k-test.true (omega arith) (c.wait_beside.ensures ∙ simp (same, stored-not-yet c.loop-k.invariant))
 
 pub returns : goal.returns
-unfolding allWaitsBeside
+unfolding all_waits_beside
 returns c = stored-inner c.loop-k.invariant c.loop-k-test.false

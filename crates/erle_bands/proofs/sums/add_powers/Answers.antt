@@ -1,6 +1,6 @@
 use Rattle.std.proofs.Common.{◌∙◌, arith}
 use Rattle.aec3_common.proofs.Tables.{stored-none, stored_more, stored-not-yet, stored-all}
-use Rattle.erle_bands.specs.Steps.{sumsWith}
+use Rattle.erle_bands.specs.Steps.{sums_with}
 use Rattle.erle_bands.proofs.sums.add_powers.Goals as goal
 
 pub loop-k-init : goal.loop-k-init
@@ -11,5 +11,5 @@ loop-k-preserved c =
     stored_more _ c.loop-k.invariant c.loop-k-test.true (omega arith) (c.sum_with.ensures ∙ simp (stored-not-yet c.loop-k.invariant))
 
 pub returns : goal.returns
-unfolding sumsWith
+unfolding sums_with
 returns c = stored-all c.loop-k.invariant c.loop-k-test.false

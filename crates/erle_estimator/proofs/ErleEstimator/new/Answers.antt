@@ -1,10 +1,10 @@
 use Rattle.std.proofs.Common.{sym, eq-eqb, ne_eqb}
-use Rattle.erle_estimator.specs.Erle.{startAnswer}
+use Rattle.erle_estimator.specs.Erle.{start_answer}
 use Rattle.erle_estimator.proofs.Runs.{start-promises}
 use Rattle.erle_estimator.proofs.ErleEstimator.new.Goals as goal
 
 pub returns-then-refused-eq-ACCEPTED-clause-value : goal.returns-then-refused-eq-ACCEPTED-clause-value
-unfolding startAnswer
+unfolding start_answer
 returns-then-refused-eq-ACCEPTED-clause-value c =
     simp (c.started_with-state.ensures, sym c.refusal-refused.ensures, eq-eqb _ _ c.if-refused-eq-ACCEPTED.true)
 
@@ -13,7 +13,7 @@ returns-then-refused-eq-ACCEPTED-clause-never_bad_state c =
     (start-promises c.args.startup_phase_length_blocks c.args.settings (returns-then-refused-eq-ACCEPTED-clause-value c)).1
 
 pub returns-else-refused-eq-ACCEPTED-clause-value : goal.returns-else-refused-eq-ACCEPTED-clause-value
-unfolding startAnswer
+unfolding start_answer
 returns-else-refused-eq-ACCEPTED-clause-value c =
     simp (
       c.started_with-state-else-refused-eq-ACCEPTED.ensures,

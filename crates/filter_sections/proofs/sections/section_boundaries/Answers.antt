@@ -2,7 +2,7 @@ use Rattle.std.proofs.Common.{sym, ◌∙◌, arith}
 use native.Mathlib.Nat.{div-le_self}
 use Rattle.aec3_common.specs.Lists.{tab}
 use Rattle.aec3_common.proofs.Ranges.{sections-in-ranges, some-sections, few-sections, short-filter, short-headroom}
-use Rattle.filter_sections.specs.Sections.{sectionsAnswer}
+use Rattle.filter_sections.specs.Sections.{sections_answer}
 use Rattle.filter_sections.proofs.sections.section_boundaries.Goals as goal
 
 pub set_sections_boundaries-boundaries-requires-clause-sections_nonzero :
@@ -26,7 +26,7 @@ set_sections_boundaries-boundaries-requires-clause-blocks_bound c =
     )
 
 pub returns-then-sections_ok : goal.returns-then-sections_ok
-unfolding sectionsAnswer
+unfolding sections_answer
 returns-then-sections_ok c =
     simp (
       sym c.sections_ok.ensures ∙ c.if-sections_ok.true,
@@ -35,5 +35,5 @@ returns-then-sections_ok c =
     )
 
 pub returns-else-sections_ok : goal.returns-else-sections_ok
-unfolding sectionsAnswer tab
+unfolding sections_answer tab
 returns-else-sections_ok c = simp (sym c.sections_ok.ensures ∙ c.if-sections_ok.false)

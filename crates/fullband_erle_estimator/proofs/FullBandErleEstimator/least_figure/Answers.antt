@@ -1,6 +1,6 @@
 use Rattle.std.proofs.Common.{◌≡◌, length, arith, rules}
 use Rattle.aec3_common.proofs.Tables.{length-mapped}
-use Rattle.fullband_erle_estimator.specs.FullBand.{fullbandLog2}
+use Rattle.fullband_erle_estimator.specs.FullBand.{fullband_log2}
 use Rattle.fullband_erle_estimator.proofs.Judged.{state-few, state-some}
 use Rattle.fullband_erle_estimator.proofs.Least.{least_first, least_more, least-all}
 use Rattle.fullband_erle_estimator.proofs.FullBandErleEstimator.least_figure.Goals as goal
@@ -17,5 +17,5 @@ loop-ch-preserved c =
     record { few = c.loop-ch.invariant.few; so_far = rw c.smaller-least.ensures (least_more c.loop-ch.invariant.so_far c.loop-ch-test.true) }
 
 pub returns : goal.returns
-unfolding fullbandLog2
+unfolding fullband_log2
 returns c = least-all c.loop-ch.invariant.so_far c.loop-ch-test.false

@@ -1,10 +1,10 @@
 use Rattle.std.proofs.Common.{sym, eq-eqb, ne_eqb}
-use Rattle.fullband_erle_estimator.specs.FullBand.{startAnswer}
+use Rattle.fullband_erle_estimator.specs.FullBand.{start_answer}
 use Rattle.fullband_erle_estimator.proofs.Runs.{start-promises}
 use Rattle.fullband_erle_estimator.proofs.FullBandErleEstimator.new.Goals as goal
 
 pub returns-then-refused-eq-ACCEPTED-clause-value : goal.returns-then-refused-eq-ACCEPTED-clause-value
-unfolding startAnswer
+unfolding start_answer
 returns-then-refused-eq-ACCEPTED-clause-value c =
     simp (c.started-state.ensures, sym c.refusal-refused.ensures, eq-eqb _ _ c.if-refused-eq-ACCEPTED.true)
 
@@ -17,7 +17,7 @@ returns-then-refused-eq-ACCEPTED-clause-figures_not_below_minimum c =
     (start-promises c.args.settings (returns-then-refused-eq-ACCEPTED-clause-value c)).1.1
 
 pub returns-else-refused-eq-ACCEPTED-clause-value : goal.returns-else-refused-eq-ACCEPTED-clause-value
-unfolding startAnswer
+unfolding start_answer
 returns-else-refused-eq-ACCEPTED-clause-value c =
     simp (
       c.started-state-else-refused-eq-ACCEPTED.ensures,

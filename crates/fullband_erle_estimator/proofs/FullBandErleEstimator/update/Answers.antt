@@ -4,21 +4,21 @@ use Rattle.aec3_common.proofs.Calls.{update-ok}
 use Rattle.aec3_common.proofs.Tables.{length-mapped, stored-none, stored-not-yet}
 use Rattle.fullband_channel.proofs.Judged.{few-points}
 use Rattle.fullband_erle_estimator.specs.declared.FullBandErleEstimator.{FullBandErleEstimator}
-use Rattle.fullband_erle_estimator.specs.FullBand.{stateOk, updateRefusal, updateAnswer}
+use Rattle.fullband_erle_estimator.specs.FullBand.{state_ok, update_refusal, update_answer}
 use Rattle.fullband_erle_estimator.proofs.Judged.{state-few, channel-passed}
 use Rattle.fullband_erle_estimator.proofs.Updates.{heard-channel, quiet-channel, Updating, updating-more, updating-all}
 use Rattle.fullband_erle_estimator.proofs.FullBandErleEstimator.update.Goals as goal
 use Rattle.fullband_erle_estimator.proofs.FullBandErleEstimator.update.Goals.{then-loud-converged_filters, else-loud-converged_filters}
 
 pub loop-ch-init : goal.loop-ch-init
-unfolding updateRefusal
+unfolding update_refusal
 loop-ch-init c =
     let a = c.args in
     let four : length a.self.channels ≡ 4 = search (rules, length-mapped) in
     let judged :
-    c.call_refusal-refused.result ≡ updateRefusal a.self a.num_capture_channels a.converged_filters.now a.x2.now a.y2.now a.e2.now
+    c.call_refusal-refused.result ≡ update_refusal a.self a.num_capture_channels a.converged_filters.now a.x2.now a.y2.now a.e2.now
     = c.call_refusal-refused.ensures ∙ rw c.ok.ensures in
-    let ok = update-ok (stateOk a.self) a.self.settings.num_capture_channels _ _ _ _ _ (sym judged ∙ c.if-refused-eq-ACCEPTED.true) in
+    let ok = update-ok (state_ok a.self) a.self.settings.num_capture_channels _ _ _ _ _ (sym judged ∙ c.if-refused-eq-ACCEPTED.true) in
     record {
       few = state-few a.self ok.state;
       so_far = record { ok = ok; settings = refl; stored = stored-none _ _ _ _ _ (omega arith) four };
@@ -30,8 +30,8 @@ update-requires c =
     let ch = c.loop-ch.ch in
     let u = c.loop-ch.invariant.so_far in
     let four : length a.self.channels ≡ 4 = search (rules, length-mapped) in
-    let captures : ch * 65 + 65 ≤ length a.y2.now = omega (arith, c.loop-ch-test.true, u.ok.longCapture) in
-    let residuals : ch * 65 + 65 ≤ length a.e2.now = omega (arith, c.loop-ch-test.true, u.ok.longResidual) in (
+    let captures : ch * 65 + 65 ≤ length a.y2.now = omega (arith, c.loop-ch-test.true, u.ok.long_capture) in
+    let residuals : ch * 65 + 65 ≤ length a.e2.now = omega (arith, c.loop-ch-test.true, u.ok.long_residual) in (
       rw (stored-not-yet u.stored) (few-points _ (channel-passed a.self u.ok.state ch four c.loop-ch-test.true)),
       ap length c.part.ensures ∙ part_length a.y2.now ch captures,
       ap length c.part-then-loud-converged_filters.ensures ∙ part_length a.e2.now ch residuals,
@@ -71,11 +71,11 @@ loop-ch-preserved c =
     }
 
 pub returns-after-loop-ch : goal.returns-after-loop-ch
-unfolding updateAnswer updateRefusal
+unfolding update_answer update_refusal
 returns-after-loop-ch c =
     let a = c.args in
     let judged :
-    c.call_refusal-refused.result ≡ updateRefusal a.self a.num_capture_channels a.converged_filters.now a.x2.now a.y2.now a.e2.now
+    c.call_refusal-refused.result ≡ update_refusal a.self a.num_capture_channels a.converged_filters.now a.x2.now a.y2.now a.e2.now
     = c.call_refusal-refused.ensures ∙ rw c.ok.ensures in
     let done =
     updating-all a.self a.converged_filters.now a.x2.now a.y2.now a.e2.now c.loop-ch.self c.loop-ch.ch c.loop-ch.invariant.so_far
@@ -83,10 +83,10 @@ returns-after-loop-ch c =
     simp (sym judged, eq-eqb _ _ c.if-refused-eq-ACCEPTED.true, done)
 
 pub returns-else-refused-eq-ACCEPTED : goal.returns-else-refused-eq-ACCEPTED
-unfolding updateAnswer updateRefusal
+unfolding update_answer update_refusal
 returns-else-refused-eq-ACCEPTED c =
     let a = c.args in
     let judged :
-    c.call_refusal-refused.result ≡ updateRefusal a.self a.num_capture_channels a.converged_filters.now a.x2.now a.y2.now a.e2.now
+    c.call_refusal-refused.result ≡ update_refusal a.self a.num_capture_channels a.converged_filters.now a.x2.now a.y2.now a.e2.now
     = c.call_refusal-refused.ensures ∙ rw c.ok.ensures in
     simp (sym judged, ne_eqb _ _ c.if-refused-eq-ACCEPTED.false)

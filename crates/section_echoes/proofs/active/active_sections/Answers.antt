@@ -1,12 +1,12 @@
 use Rattle.std.proofs.Common.{length, arith, ap, refl, ◌∙◌}
 use Rattle.aec3_common.specs.Lists.{tab}
 use Rattle.aec3_common.proofs.Tables.{length-tab}
-use Rattle.section_echoes.specs.Echoes.{leastReached}
+use Rattle.section_echoes.specs.Echoes.{least_reached}
 use Rattle.section_echoes.proofs.Least.{least_more, least-all}
 use Rattle.section_echoes.proofs.active.active_sections.Goals as goal
 
 pub loop-s-init : goal.loop-s-init
-unfolding tab leastReached
+unfolding tab least_reached
 loop-s-init c = (omega arith, refl)
 
 pub put_behind-requires : goal.put_behind-requires

@@ -1,6 +1,6 @@
 use Rattle.std.proofs.Common.{◌≡◌, ℕ, ◌*◌, ◌<◌, ◌≤◌, true, leb, List, length, get_or, take, arith, ap, ◌∙◌, leb-true}
 use Rattle.aec3_common.specs.Lists.{tab, every}
-use Rattle.aec3_common.specs.Settings.{maxFilterLengthBlocks}
+use Rattle.aec3_common.specs.Settings.{max_filter_length_blocks}
 use Rattle.aec3_common.proofs.Every.{every-at}
 use Rattle.section_echoes.specs.Packed.{total}
 use Rattle.section_echoes.proofs.EachChannel.{going-begun, going-part, going_more, going-over}
@@ -9,16 +9,16 @@ use Rattle.section_echoes.proofs.channels.all_active_sections.Goals as goal
 
 -- a channel's count
 few :
-    (counts : List ℕ) (ch : ℕ) → every (λ n. leb n maxFilterLengthBlocks) counts ≡ true → ch < length counts
-    → get_or counts ch 0 ≤ maxFilterLengthBlocks
+    (counts : List ℕ) (ch : ℕ) → every (λ n. leb n max_filter_length_blocks) counts ≡ true → ch < length counts
+    → get_or counts ch 0 ≤ max_filter_length_blocks
 few counts ch ok h =
-    leb-true (get_or counts ch 0) maxFilterLengthBlocks (every-at (λ n. leb n maxFilterLengthBlocks) counts 0 ch ok h)
+    leb-true (get_or counts ch 0) max_filter_length_blocks (every-at (λ n. leb n max_filter_length_blocks) counts 0 ch ok h)
 
 -- where a channel's responses begin
 small :
-    (counts : List ℕ) (ch : ℕ) {at : ℕ} → every (λ n. leb n maxFilterLengthBlocks) counts ≡ true → length counts ≤ 4
+    (counts : List ℕ) (ch : ℕ) {at : ℕ} → every (λ n. leb n max_filter_length_blocks) counts ≡ true → length counts ≤ 4
     → at ≡ total (take ch counts) * 65 → at ≤ 64 * 65
-small counts ch ok most begins = omega (arith, begins, total-part counts ch, total-small maxFilterLengthBlocks counts ok)
+small counts ch ok most begins = omega (arith, begins, total-part counts ch, total-small max_filter_length_blocks counts ok)
 
 pub loop-ch-init : goal.loop-ch-init
 unfolding tab

@@ -1,8 +1,8 @@
 use Rattle.std.proofs.Common.{◌-◌, arith}
 use Rattle.aec3_common.specs.Lists.{tab}
 use Rattle.aec3_common.proofs.Tables.{stored_more}
-use Rattle.section_echoes.specs.Steps.{echoSums}
-use Rattle.section_echoes.proofs.Sections.{sections-begun, sections-over, section-response-is, echoAt, echo-first, echo-next}
+use Rattle.section_echoes.specs.Steps.{echo_sums}
+use Rattle.section_echoes.proofs.Sections.{sections-begun, sections-over, section-response-is, echo_at, echo-first, echo-next}
 use Rattle.section_echoes.proofs.echoes.echo_sums.Goals as goal
 
 pub loop-s-init : goal.loop-s-init
@@ -13,7 +13,7 @@ loop-s-init c =
     let boundaries = c.args.boundaries.now in
     let count = c.args.count in (
       omega arith,
-      stored_more c.echoes.result (sections-begun c.args.sections (echoAt render responses boundaries count)) c.requires.le_sections.0 c.requires.le_sections.1
+      stored_more c.echoes.result (sections-begun c.args.sections (echo_at render responses boundaries count)) c.requires.le_sections.0 c.requires.le_sections.1
           (echo-first render responses boundaries count
           (section-response-is boundaries count 0 c.fewer.ensures.value responses c.section_response-response.ensures)
           c.echoes.ensures),
@@ -35,6 +35,6 @@ loop-s-preserved c =
     )
 
 pub returns : goal.returns
-unfolding echoSums
+unfolding echo_sums
 returns c =
-    sections-over c.args.sections (echoAt c.args.render.now c.args.responses.now c.args.boundaries.now c.args.count) c.loop-s.invariant.1 c.loop-s-test.false
+    sections-over c.args.sections (echo_at c.args.render.now c.args.responses.now c.args.boundaries.now c.args.count) c.loop-s.invariant.1 c.loop-s-test.false

@@ -2,8 +2,8 @@
 use Rattle.std.proofs.Common.{[], ◌≤◌}
 use Rattle.aec3_common.proofs.Tables.{Stored}
 use Rattle.section_echoes.specs.Steps.{bands}
-use Rattle.section_echoes.proofs.Sections.{noSums, echoAt}
+use Rattle.section_echoes.proofs.Sections.{no_sums, echo_at}
 use Rattle.section_echoes.proofs.echoes.echo_sums.Given as goal
 
 abbrev pub invariant-loop-s : goal.invariant-loop-s
-invariant-loop-s l = (1 ≤ l.s) × Stored 8 [] 0 l.sections (λ t. bands (echoAt l.render l.responses l.boundaries l.count t)) noSums l.r l.s
+invariant-loop-s l = (1 ≤ l.s) × Stored 8 [] 0 l.sections (λ t. bands (echo_at l.render l.responses l.boundaries l.count t)) no_sums l.r l.s

@@ -2,7 +2,7 @@ use Rattle.std.proofs.Common.{◌+◌, ◌*◌, ◌≤◌, List, Float, length, 
 use Rattle.aec3_common.specs.Lists.{tab}
 use Rattle.aec3_common.proofs.Tables.{length-tab}
 use Rattle.aec3_common.proofs.Bands.{lent-part, part_length}
-use Rattle.section_echoes.specs.Steps.{withPowers}
+use Rattle.section_echoes.specs.Steps.{with_powers}
 use Rattle.section_echoes.proofs.Sums.{response-begun, response-more}
 use Rattle.section_echoes.proofs.echoes.section_response.Goals as goal
 
@@ -26,6 +26,6 @@ loop-block-preserved c =
       omega (arith, c.loop-block.invariant.0),
       omega (arith, c.loop-block.invariant.0, c.loop-block-test.true),
       c.add_powers.ensures
-          ∙ ap (λ (l : List Float). withPowers l c.loop-block.sums) (lent-part responses block)
+          ∙ ap (λ (l : List Float). with_powers l c.loop-block.sums) (lent-part responses block)
           ∙ response-more responses c.args.from block c.loop-block.sums c.loop-block.invariant.0 c.loop-block.invariant.2,
     )

@@ -1,5 +1,5 @@
 use Rattle.std.proofs.Common.{ℕ, ◌+◌, ◌*◌, ◌≤◌, List, Float, length, arith, ap, ◌∙◌}
-use Rattle.section_echoes.specs.Steps.{withShares}
+use Rattle.section_echoes.specs.Steps.{with_shares}
 use Rattle.section_echoes.proofs.Sums.{lent-numbers, numbers-long, slot-none, slot-more, slot-long}
 use Rattle.section_echoes.proofs.renders.add_slot.Goals as goal
 
@@ -20,6 +20,6 @@ loop-ch-preserved c =
     let spectra = c.args.spectra.now in (
       omega arith,
       c.add_shares.ensures
-          ∙ ap (λ (l : List Float). withShares l c.args.share c.loop-ch.sums) (lent-numbers spectra (c.args.position + c.loop-ch.ch * 65))
+          ∙ ap (λ (l : List Float). with_shares l c.args.share c.loop-ch.sums) (lent-numbers spectra (c.args.position + c.loop-ch.ch * 65))
           ∙ slot-more spectra c.args.position c.args.share c.args.sums.now c.loop-ch.ch c.loop-ch.sums c.loop-ch.invariant.1,
     )

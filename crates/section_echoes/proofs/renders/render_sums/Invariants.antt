@@ -1,10 +1,10 @@
 -- The sections before this one have their render power.
 use Rattle.std.proofs.Common.{[]}
 use Rattle.aec3_common.proofs.Tables.{Stored}
-use Rattle.section_echoes.specs.Echoes.{sectionRender}
+use Rattle.section_echoes.specs.Echoes.{section_render}
 use Rattle.section_echoes.specs.Steps.{bands}
-use Rattle.section_echoes.proofs.Sections.{noSums}
+use Rattle.section_echoes.proofs.Sections.{no_sums}
 use Rattle.section_echoes.proofs.renders.render_sums.Given as goal
 
 abbrev pub invariant-loop-s : goal.invariant-loop-s
-invariant-loop-s l = Stored 8 [] 0 l.sections (λ t. bands (sectionRender l.ring l.spectra l.headroom l.boundaries l.count t)) noSums l.r l.s
+invariant-loop-s l = Stored 8 [] 0 l.sections (λ t. bands (section_render l.ring l.spectra l.headroom l.boundaries l.count t)) no_sums l.r l.s

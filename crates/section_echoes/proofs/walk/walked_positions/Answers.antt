@@ -2,24 +2,24 @@ use Rattle.std.proofs.Common.{◌≡◌, ℕ, ◌*◌, ◌<◌, ◌≤◌, pos, 
 use mir.Syntax.{w64}
 use mir.Facts.{to_z-of_z}
 use Rattle.aec3_common.specs.Lists.{tab}
-use Rattle.spectrum_buffer.specs.Ring.{offsetPlace, maxSlots}
+use Rattle.spectrum_buffer.specs.Ring.{offset_place, max_slots}
 use Rattle.section_echoes.specs.declared.RenderRing.{RenderRing}
-use Rattle.section_echoes.specs.Walk.{walkedPlace}
+use Rattle.section_echoes.specs.Walk.{walked_place}
 use Rattle.section_echoes.proofs.Walks.{walking-begun, walking_on, walking-more, walking-over, walked-first, walked-below, position-small}
 use Rattle.section_echoes.proofs.walk.walked_positions.Goals as goal
 
 -- the machine reads headroom as itself
-begins : (c : goal.After-offset_place-place) → c.offset_place-place.result ≡ offsetPlace c.args.ring.slots c.args.ring.position (pos c.args.headroom)
+begins : (c : goal.After-offset_place-place) → c.offset_place-place.result ≡ offset_place c.args.ring.slots c.args.ring.position (pos c.args.headroom)
 begins c =
     c.offset_place-place.ensures
-    ∙ ap (offsetPlace c.args.ring.slots c.args.ring.position)
+    ∙ ap (offset_place c.args.ring.slots c.args.ring.position)
     (to_z-of_z {w = w64} {z = pos c.args.headroom} (record { sfits = omega (arith, c.requires.3) }))
 
 -- a place that the walk takes has a small position
 small :
     (ring : RenderRing) (headroom place block : ℕ)
-    → place ≡ walkedPlace ring.slots ring.position headroom block
-    → ring.position < ring.slots → ring.slots ≤ maxSlots → ring.channels ≤ 2 → place * (ring.channels * 65) ≤ maxSlots * 130
+    → place ≡ walked_place ring.slots ring.position headroom block
+    → ring.position < ring.slots → ring.slots ≤ max_slots → ring.channels ≤ 2 → place * (ring.channels * 65) ≤ max_slots * 130
 small ring headroom place block at here few pair =
     position-small place ring.slots ring.channels (rw at (walked-below ring.slots ring.position headroom block here)) few pair
 

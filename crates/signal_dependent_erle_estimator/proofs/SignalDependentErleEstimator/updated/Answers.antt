@@ -1,7 +1,7 @@
 use Rattle.std.proofs.Common.{◌≡◌, ℕ, length, refl, ap, ◌∙◌, arith, rules}
 use Rattle.aec3_common.proofs.Bands.{part_length}
 use Rattle.aec3_common.proofs.Tables.{length-mapped, stored-none, stored-not-yet}
-use Rattle.section_echoes.specs.Steps.{allActive}
+use Rattle.section_echoes.specs.Steps.{all_active}
 use Rattle.signal_dependent_erle_estimator.specs.SignalDependent.{Update}
 use Rattle.signal_dependent_erle_estimator.proofs.Judged.{few-captures, one-section, eight-sections, headroom-inside}
 use Rattle.signal_dependent_erle_estimator.proofs.Updates.{active-at, active-within, updating-more, updating-over}
@@ -49,7 +49,7 @@ update-requires-clause-active_value c =
     let ok = c.requires.passed in
     let found =
     c.all_active_sections-active.ensures
-    ∙ ap (λ (n : ℕ). allActive u.ring u.spectra n s.section_boundaries_blocks s.settings.num_sections u.counts u.responses)
+    ∙ ap (λ (n : ℕ). all_active u.ring u.spectra n s.section_boundaries_blocks s.settings.num_sections u.counts u.responses)
     c.headroom_blocks.ensures in
     rw (active-at s u c.loop-ch.ch found (omega (arith, ok.counts)) (omega (arith, ok.counts)))
     (active-within s u c.loop-ch.ch (one-section s.settings ok.state))
@@ -80,7 +80,7 @@ returns c =
     let ok = c.requires.passed in
     let found =
     c.all_active_sections-active.ensures
-    ∙ ap (λ (n : ℕ). allActive c.args.ring c.args.spectra.now n s.section_boundaries_blocks s.settings.num_sections c.args.response_blocks.now c.args.responses.now)
+    ∙ ap (λ (n : ℕ). all_active c.args.ring c.args.spectra.now n s.section_boundaries_blocks s.settings.num_sections c.args.response_blocks.now c.args.responses.now)
     c.headroom_blocks.ensures in
     updating-over c.loop-ch.invariant.1 _ _ _ (omega (arith, ok.count)) (omega (arith, ok.counts, ok.count)) (omega (arith, ok.counts))
     found c.subband_sums-x2_subbands.ensures (λ ch. refl)

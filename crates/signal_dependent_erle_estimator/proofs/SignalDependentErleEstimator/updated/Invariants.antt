@@ -14,6 +14,6 @@ invariant-loop-ch l =
       capture = part l.y2 ch;
       residual = part l.e2 ch;
       average = part l.average ch;
-      averageCompensated = part l.average_compensated ch;
+      average_compensated = part l.average_compensated ch;
     })
     l.self l.ch

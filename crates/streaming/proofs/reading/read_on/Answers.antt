@@ -1,4 +1,4 @@
-use Rattle.std.proofs.Common.{◌-◌, length, arith, rules}
+use Rattle.std.proofs.Common.{◌-◌, length, rules}
 use Rattle.streaming.proofs.Behind.{read-some, read-none}
 use Rattle.streaming.proofs.reading.read_on.Goals as goal
 

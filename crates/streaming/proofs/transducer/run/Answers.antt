@@ -1,4 +1,4 @@
-use Rattle.std.proofs.Common.{◌≡◌, ℕ, ◌+◌, ◌-◌, ◌≤◌, List, take, drop, length, arith, refl, ◌∙◌}
+use Rattle.std.proofs.Common.{◌≡◌, ◌-◌, arith, refl, ◌∙◌}
 use Rattle.streaming.proofs.Piped.{pipe-begun, part-of-part, begun-failed, whole-done, whole-ended, pipe-on, pipe-read}
 use Rattle.streaming.proofs.transducer.run.Goals as goal
 

@@ -1,20 +1,20 @@
 -- An f32 argument is a value of binary32, so that the claims over lists of calls need no premise.
 use Rattle.std.proofs.Common.{sym, ◌∙◌, eq-eqb, rules}
 use Rattle.aec3_common.proofs.Rounding.{holds}
-use Rattle.subband_erle_estimator.specs.Subband.{startAnswer}
+use Rattle.subband_erle_estimator.specs.Subband.{start_answer}
 use Rattle.subband_erle_estimator.proofs.Accepted.{never-bad-state}
 use Rattle.subband_erle_estimator.proofs.Resting.{figures-in-range-and-at-rest}
 use Rattle.subband_erle_estimator.proofs.SubbandErleEstimator.new.Goals as goal
 
 pub returns-then-refused-eq-ACCEPTED-clause-range_and_rest : goal.returns-then-refused-eq-ACCEPTED-clause-range_and_rest
-unfolding startAnswer
+unfolding start_answer
 returns-then-refused-eq-ACCEPTED-clause-range_and_rest c =
     λ calls e.
     figures-in-range-and-at-rest c.args.settings (record { min = holds (search rules); max_l = holds (search rules); max_h = holds (search rules) })
     (sym c.refusal-refused.ensures ∙ e) calls
 
 pub returns-then-refused-eq-ACCEPTED-clause-never_bad_state : goal.returns-then-refused-eq-ACCEPTED-clause-never_bad_state
-unfolding startAnswer
+unfolding start_answer
 returns-then-refused-eq-ACCEPTED-clause-never_bad_state c =
     λ e.
     let accept = sym c.refusal-refused.ensures ∙ e in

@@ -1,12 +1,12 @@
 use Rattle.std.proofs.Common.{◌≡◌, ℕ, ◌+◌, ◌≤◌, Bool, ◌&&◌, List, length, refl, sym, ap, subst, ◌∙◌, eq-eqb, ne_eqb, arith, rules}
 use lib.Dec.{eqb}
 use lib.Ieee.{Float}
-use Rattle.aec3_common.specs.Calls.{callRefusal}
+use Rattle.aec3_common.specs.Calls.{call_refusal}
 use Rattle.aec3_common.proofs.Bands.{part_length}
 use Rattle.aec3_common.proofs.Calls.{update-ok}
 use Rattle.aec3_common.proofs.Tables.{length-mapped, stored-none, stored-not-yet}
 use Rattle.subband_erle_estimator.specs.declared.SubbandErleEstimator.{SubbandErleEstimator}
-use Rattle.subband_erle_estimator.specs.Subband.{settingsRefusal, stateOk, updateRefusal, updateAnswer}
+use Rattle.subband_erle_estimator.specs.Subband.{settings_refusal, state_ok, update_refusal, update_answer}
 use Rattle.subband_erle_estimator.proofs.Judged.{Walked, walked_none, walked_more, walked_all, state-few, points-few}
 use Rattle.subband_erle_estimator.proofs.Updates.{converged-channel, quiet-channel, Updating, updating-more, updating-all}
 use Rattle.subband_erle_estimator.proofs.SubbandErleEstimator.update.Goals as goal
@@ -21,14 +21,14 @@ loop-ch-preserved c = walked_more c.loop-ch.invariant c.loop-ch-test.true (searc
 -- the state is judged, and the call
 refused-by :
     (s : SubbandErleEstimator) (channels : ℕ) (converged : List Bool) (x y e : List Float) {refused refusal end k : ℕ} {ok : Bool}
-    → Walked s end k ok → end ≤ k → refusal ≡ settingsRefusal s.settings
-    → refused ≡ callRefusal (eqb refusal 0 && ok) s.settings.num_capture_channels channels converged x y e
-    → refused ≡ updateRefusal s channels converged x y e
-unfolding updateRefusal
+    → Walked s end k ok → end ≤ k → refusal ≡ settings_refusal s.settings
+    → refused ≡ call_refusal (eqb refusal 0 && ok) s.settings.num_capture_channels channels converged x y e
+    → refused ≡ update_refusal s channels converged x y e
+unfolding update_refusal
 refused-by s channels converged x y e w h r told = told ∙ rw (walked_all w h r)
 
 pub returns-else-refused-eq-ACCEPTED : goal.returns-else-refused-eq-ACCEPTED
-unfolding updateAnswer
+unfolding update_answer
 returns-else-refused-eq-ACCEPTED c =
     let a = c.args in
     let refused =
@@ -37,7 +37,7 @@ returns-else-refused-eq-ACCEPTED c =
     simp (sym refused, ne_eqb _ _ c.if-refused-eq-ACCEPTED.false)
 
 pub loop-ch-then-refused-eq-ACCEPTED-init : goal.loop-ch-then-refused-eq-ACCEPTED-init
-unfolding updateRefusal
+unfolding update_refusal
 loop-ch-then-refused-eq-ACCEPTED-init c =
     let a = c.args in
     let s = a.self in
@@ -45,7 +45,7 @@ loop-ch-then-refused-eq-ACCEPTED-init c =
     refused-by s a.num_capture_channels a.converged_filters.now a.x2.now a.y2.now a.e2.now
     c.loop-ch.invariant c.loop-ch-test.false c.refusal.ensures c.call_refusal-refused.ensures in
     let ok =
-    update-ok (stateOk s) s.settings.num_capture_channels a.num_capture_channels a.converged_filters.now a.x2.now a.y2.now a.e2.now
+    update-ok (state_ok s) s.settings.num_capture_channels a.num_capture_channels a.converged_filters.now a.x2.now a.y2.now a.e2.now
     (sym refused ∙ c.if-refused-eq-ACCEPTED.true) in
     let few = state-few s ok.state in (
       omega arith,
@@ -65,9 +65,9 @@ update-requires-clause-x2_len c =
     let at = c.loop-ch-then-refused-eq-ACCEPTED in
     let u = at.invariant.2 in
     let h = c.loop-ch-then-refused-eq-ACCEPTED-test.true in (
-      u.ok.longRender,
-      ap length c.part.ensures ∙ part_length c.args.y2.now at.ch (omega (arith, h, u.ok.longCapture)),
-      ap length c.part-then-converged_filters-ch.ensures ∙ part_length c.args.e2.now at.ch (omega (arith, h, u.ok.longResidual)),
+      u.ok.long_render,
+      ap length c.part.ensures ∙ part_length c.args.y2.now at.ch (omega (arith, h, u.ok.long_capture)),
+      ap length c.part-then-converged_filters-ch.ensures ∙ part_length c.args.e2.now at.ch (omega (arith, h, u.ok.long_residual)),
     )
 
 pub loop-ch-then-refused-eq-ACCEPTED-preserved : goal.loop-ch-then-refused-eq-ACCEPTED-preserved
@@ -99,7 +99,7 @@ loop-ch-then-refused-eq-ACCEPTED-preserved c =
     )
 
 pub returns-after-loop-ch-then-refused-eq-ACCEPTED : goal.returns-after-loop-ch-then-refused-eq-ACCEPTED
-unfolding updateAnswer
+unfolding update_answer
 returns-after-loop-ch-then-refused-eq-ACCEPTED c =
     let a = c.args in
     let at = c.loop-ch-then-refused-eq-ACCEPTED in

@@ -1,9 +1,9 @@
 -- The tests are the definition's.
 use Rattle.std.proofs.Common.{sym, ◌∙◌, arith, true, false}
 use borrow.Author.Tests.{eq-eqb, ne_eqb}
-use Rattle.trace_records.specs.Steps.{recordFrom}
-use Rattle.trace_state.specs.Apply.{isBlock}
-use Rattle.trace_blocks.proofs.Frames.{Whole, whole_is, frame-none, frame-by, frame-other}
+use Rattle.trace_records.specs.Steps.{record_from}
+use Rattle.trace_state.specs.Apply.{is_block}
+use Rattle.trace_blocks.proofs.Frames.{whole_is, frame-none, frame-by, frame-other}
 use Rattle.trace_blocks.proofs.blocks.block_frame_length.Goals as goal
 
 pub returns-then-length-eq0 : goal.returns-then-length-eq0
@@ -28,19 +28,19 @@ returns-else-block_form_refusal-eq-ACCEPTED c =
     frame-by _ _ w (c.in-Block.ensures c.args.standing) c.block_form_refusal.ensures false (ne_eqb _ _ c.if-block_form_refusal-eq-ACCEPTED.false)
 
 pub returns-in-Settings : goal.returns-in-Settings
-unfolding recordFrom isBlock
+unfolding record_from is_block
 returns-in-Settings c =
     let w = whole_is _ c.frame_length-length.ensures c.if-length-eq0.false in
     frame-other _ _ w c.decode-decoded.result (c.decode-decoded.ensures c.args.standing) (rw c.in-Settings.is)
 
 pub returns-in-Reset : goal.returns-in-Reset
-unfolding recordFrom isBlock
+unfolding record_from is_block
 returns-in-Reset c =
     let w = whole_is _ c.frame_length-length.ensures c.if-length-eq0.false in
     frame-other _ _ w c.decode-decoded.result (c.decode-decoded.ensures c.args.standing) (rw c.in-Reset.is)
 
 pub returns-in-Unknown : goal.returns-in-Unknown
-unfolding recordFrom isBlock
+unfolding record_from is_block
 returns-in-Unknown c =
     let w = whole_is _ c.frame_length-length.ensures c.if-length-eq0.false in
     frame-other _ _ w c.decode-decoded.result (c.decode-decoded.ensures c.args.standing) (rw c.in-Unknown.is)

@@ -2,22 +2,22 @@
 use Rattle.std.proofs.Common.{ℕ, ◌-◌, List, length, drop}
 use Rattle.aec3_common.proofs.Tables.{Stored}
 use Rattle.erle_estimator.specs.declared.ErleEstimator.{ErleEstimator}
-use Rattle.trace_records.specs.Frames.{recordIn}
-use Rattle.trace_records.specs.Records.{blockIn}
-use Rattle.trace_state.specs.Apply.{channelsOf, updateIn}
+use Rattle.trace_records.specs.Frames.{record_in}
+use Rattle.trace_records.specs.Records.{block_in}
+use Rattle.trace_state.specs.Apply.{channels_of, update_in}
 use Rattle.trace_state.specs.Feed.{Walk}
-use Rattle.trace_blocks.specs.Steps.{figuresOf, noFigures}
-use Rattle.trace_blocks.proofs.Moving.{Moving, subbandAt}
+use Rattle.trace_blocks.specs.Steps.{figures_of, no_figures}
+use Rattle.trace_blocks.proofs.Moving.{Moving, subband_at}
 use Rattle.trace_blocks.proofs.Going.{Going}
 use Rattle.trace_blocks.proofs.blocks.run_blocks.Given as goal
 
 abbrev pub invariant-loop-ch : goal.invariant-loop-ch
 invariant-loop-ch l =
     let e = l.initial.estimator in
-    let k = channelsOf e in
-    let u = updateIn k (blockIn k (recordIn (drop l.used l.input))) in
+    let k = channels_of e in
+    let u = update_in k (block_in k (record_in (drop l.used l.input))) in
     Moving e u l.ch-end l.estimator l.ch
-    × Stored 4 noFigures 0 l.ch-end (λ k. figuresOf e.settings.onset_detection l.band (subbandAt e u k)) l.initial.figures l.figures l.ch
+    × Stored 4 no_figures 0 l.ch-end (λ k. figures_of e.settings.onset_detection l.band (subband_at e u k)) l.initial.figures l.figures l.ch
 
 -- where feeding stands, by its parts
 abbrev pub walk : ErleEstimator → (band blocks records due used : ℕ) → List ℕ → ℕ → Walk

@@ -2,23 +2,23 @@
 use Rattle.std.proofs.Common.{sym, ◌∙◌}
 use borrow.Author.Tests.{eq-eqb, ne_eqb}
 use Rattle.trace_records.specs.Records.{decoded}
-use Rattle.trace_records.specs.Steps.{recordFrom}
+use Rattle.trace_records.specs.Steps.{record_from}
 use Rattle.trace_records.proofs.records.decode.Goals as goal
 
 pub returns-then-kind-eq-SETTINGS_KIND : goal.returns-then-kind-eq-SETTINGS_KIND
-unfolding decoded recordFrom
+unfolding decoded record_from
 returns-then-kind-eq-SETTINGS_KIND c st =
     let kind = sym c.half_at-kind.ensures.value ∙ c.if-kind-eq-SETTINGS_KIND.true in
     simp (eq-eqb _ _ kind, c.settings_in.ensures)
 
 pub returns-then-kind-eq-BLOCK_KIND : goal.returns-then-kind-eq-BLOCK_KIND
-unfolding decoded recordFrom
+unfolding decoded record_from
 returns-then-kind-eq-BLOCK_KIND c st =
     let kind = c.half_at-kind.ensures.value in
     sym (rw (ne_eqb _ 1 (λ e. c.if-kind-eq-SETTINGS_KIND.false (kind ∙ e)), eq-eqb _ 2 (sym kind ∙ c.if-kind-eq-BLOCK_KIND.true)))
 
 pub returns-then-kind-eq-RESET_KIND : goal.returns-then-kind-eq-RESET_KIND
-unfolding decoded recordFrom
+unfolding decoded record_from
 returns-then-kind-eq-RESET_KIND c st =
     let kind = c.half_at-kind.ensures.value in
     sym (
@@ -31,7 +31,7 @@ returns-then-kind-eq-RESET_KIND c st =
     )
 
 pub returns-else-kind-eq-RESET_KIND : goal.returns-else-kind-eq-RESET_KIND
-unfolding decoded recordFrom
+unfolding decoded record_from
 returns-else-kind-eq-RESET_KIND c st =
     let kind = c.half_at-kind.ensures.value in
     sym (

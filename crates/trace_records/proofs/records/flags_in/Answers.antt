@@ -1,7 +1,7 @@
 use Rattle.std.proofs.Common.{◌≡◌, Bool, true, false, cond, ◌&&◌, ltb, refl, ◌∙◌}
 use Rattle.aec3_common.proofs.Loops.{loops}
 use Rattle.aec3_common.proofs.Tables.{stored_more}
-use Rattle.trace_records.specs.Steps.{flagTable}
+use Rattle.trace_records.specs.Steps.{flag_table}
 use Rattle.trace_records.proofs.records.flags_in.Goals as goal
 
 -- a test that is asked only where another passes
@@ -18,5 +18,5 @@ loop-ch-preserved c =
     stored_more _ c.loop-ch.invariant c.loop-ch-test.true (search loops) (and-choice has _ ∙ rw c.flag_at.ensures)
 
 pub returns : goal.returns
-unfolding flagTable
+unfolding flag_table
 returns c = search loops

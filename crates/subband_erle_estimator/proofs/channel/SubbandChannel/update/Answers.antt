@@ -1,7 +1,7 @@
 -- The powers are added, on a sixth point the record learns, then the hold falls.
 use Rattle.std.proofs.Common.{◌≡◌, sym, ap, subst, ◌∙◌, eq-eqb, ne_eqb, rules}
 use Rattle.subband_erle_estimator.proofs.Parts.{Long}
-use Rattle.subband_erle_estimator.proofs.After.{heard-is, convergedBy, converged-six, converged-few, converged-long, loweredBy, lowered_is, after-converged}
+use Rattle.subband_erle_estimator.proofs.After.{heard-is, converged_by, converged-six, converged-few, converged-long, lowered_by, lowered_is, after-converged}
 use Rattle.subband_erle_estimator.proofs.channel.SubbandChannel.update.Goals as goal
 use Rattle.subband_erle_estimator.proofs.channel.SubbandChannel.update.Goals.{then-points-eq-POINTS_TO_ACCUMULATE, else-points-eq-POINTS_TO_ACCUMULATE}
 
@@ -22,7 +22,7 @@ returns c =
     } in
     let heard = heard-is a.x2.now a.y2.now a.e2.now a.self long c.add_powers.ensures c.add_powers-2.ensures c.note_low_energy.ensures c.points_with-points.ensures in
     let joined = c.if-points-eq-POINTS_TO_ACCUMULATE.self in
-    let converged : joined ≡ convergedBy a.x2.now a.y2.now a.e2.now a.self a.settings =
+    let converged : joined ≡ converged_by a.x2.now a.y2.now a.e2.now a.self a.settings =
     elim c.if-points-eq-POINTS_TO_ACCUMULATE.branch [
       | then-points-eq-POINTS_TO_ACCUMULATE w ↦
           w.self-is ∙ w.learnt-self.ensures
@@ -33,5 +33,5 @@ returns c =
     let whole = subst Long (sym converged) (converged-long a.settings a.x2.now a.y2.now a.e2.now a.self) in
     lowered_is a.settings joined c.lower_holds.ensures whole c.decay_compensated.ensures c.wait_again.ensures
     c.copy_ends.ensures c.copy_ends-2.ensures c.copy_ends-3.ensures
-    ∙ ap (loweredBy a.settings) converged
+    ∙ ap (lowered_by a.settings) converged
     ∙ after-converged a.settings a.x2.now a.y2.now a.e2.now a.self
