@@ -1,5 +1,7 @@
 -- A test of every entry of a list, and the loop that makes it.
-use Rattle.std.proofs.Common.{◌≡◌, ℕ, zero, suc, ◌+◌, ◌<◌, ◌≤◌, Bool, true, ◌&&◌, List, [], ◌∷◌, length, get_or, take, drop, sym, refl, ap, ◌∙◌, le_of_suc-le-suc, not-suc-le-zero, add-one, arith, length-take, take_all, get_or-take}
+use Rattle.std.proofs.Common.{◌≡◌, ℕ, zero, suc, ◌+◌, ◌<◌, ◌≤◌, Bool, true, ◌&&◌, List, [], ◌∷◌, ◌++◌, ◌-◌, length, get_or, take, drop, sym, refl, ap, ◌∙◌, le_of_suc-le-suc, not-suc-le-zero, add-one, arith, length-take, take_all, get_or-take}
+use Rattle.std.proofs.Math.Seq.{take-add}
+use Rattle.std.specs.Simd.Lanes.{chunk}
 use Rattle.aec3_common.specs.Lists.{every}
 use Rattle.aec3_common.proofs.Choices.{and_left, and_right, and-true, and_assoc}
 
@@ -50,6 +52,11 @@ every_more p (x ∷ xs) (suc k) d h =
     and_assoc (p x) (every p (take k xs)) (p (get_or xs k d))
     ∙ ap (λ (b : Bool). p x && b) (every_more p xs k d (le_of_suc-le-suc h))
 
+every-append : {A : Type 0} (p : A → Bool) (xs ys : List A) → every p (xs ++ ys) ≡ every p xs && every p ys
+unfolding every
+every-append p [] ys = refl
+every-append p (x ∷ xs) ys = ap (λ (b : Bool). p x && b) (every-append p xs ys) ∙ sym (and_assoc (p x) (every p xs) (every p ys))
+
 -- what a loop with no early end knows at k: ok says whether every entry below k passes
 pub record Tested {A : Type 0} (p : A → Bool) (xs : List A) (k : ℕ) (ok : Bool) : Type 0 where
   pub to : k ≤ length xs
@@ -64,6 +71,16 @@ pub tested-more :
     → Tested p xs k ok → k < length xs → b ≡ p (get_or xs k d) → Tested p xs (k + 1) (ok && b)
 tested-more {p = p} {xs = xs} {k = k} d s h e =
     record { to = omega arith; told = rw (s.told, e, add-one) (every_more p xs k d h) }
+
+-- four entries more
+pub tested-four :
+    {A : Type 0} {p : A → Bool} {xs : List A} {k : ℕ} {ok b : Bool}
+    → Tested p xs k ok → 4 ≤ length xs - k → b ≡ every p (chunk k 4 xs) → Tested p xs (k + 4) (ok && b)
+tested-four {p = p} {xs = xs} {k = k} s h e =
+    record {
+      to = omega (arith, s.to);
+      told = rw (s.told, e) (sym (ap (every p) (take-add k 4 xs) ∙ every-append p (take k xs) (chunk k 4 xs)));
+    }
 
 pub tested-all :
     {A : Type 0} {p : A → Bool} {xs : List A} {k : ℕ} {ok : Bool}

@@ -1,6 +1,7 @@
 pub mod Choices
 pub mod Tables
 pub mod Every
+mod Lanes
 pub mod Constants
 pub mod Floats
 pub mod Holds

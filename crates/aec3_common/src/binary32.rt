@@ -1,8 +1,11 @@
 // binary32 helpers, each operation rounded once.
-ghost use Rattle.std.specs.Prelude.{◌≡◌};
+ghost use Rattle.std.specs.Prelude.{◌≡◌, ◌+◌, ◌≤◌, length};
+ghost use Rattle.std.specs.Simd.Lanes.{chunk};
 ghost use Rattle.aec3_common.specs.Binary32.{clamped, within, values_ok, sums_ok};
 ghost use Rattle.aec3_common.specs.Binary32.{larger as Binary32·larger, smaller as Binary32·smaller, moved as Binary32·moved};
 ghost use Rattle.aec3_common.specs.Lists.{every};
+
+use std::simd::prelude::*;
 
 // 2^100, the greatest spectrum or response value, and 2^110, the greatest held sum.
 pub const GREATEST_VALUE: f32 = 1267650600228229401496703205376.0;
@@ -68,15 +71,31 @@ pub fn sums_ok(xs: &[f32]) -> bool
     all_within(xs, GREATEST_SUM)
 }
 
-// Whether every value lies in 0 to hi. No branch leaves the loop early, so that it compiles to vector code.
+// Whether every value lies in 0 to hi: four at a time while there are four, with no early way out.
 fn all_within(xs: &[f32], hi: f32) -> bool
     ensures { result ≡ every (within hi) xs.now }
 {
     let mut ok = true;
     let mut k = 0;
     while k < xs.len() {
-        ok = ok & is_within(xs[k], hi);
-        k += 1;
+        if xs.len() - k >= 4 {
+            ok = ok & four_within(xs, k, hi);
+            k += 4;
+        } else {
+            ok = ok & is_within(xs[k], hi);
+            k += 1;
+        }
     }
     ok
+}
+
+// Whether each of four values in a row lies in 0 to hi.
+fn four_within(xs: &[f32], at: usize, hi: f32) -> bool
+    requires { at + 4 ≤ length xs.now }
+    ensures { result ≡ every (within hi) (chunk at 4 xs.now) }
+{
+    let lanes = f32x4::from_slice(&xs[at..]);
+    let above = f32x4::splat(0.0).simd_le(lanes).to_bitmask();
+    let below = lanes.simd_le(f32x4::splat(hi)).to_bitmask();
+    (above == 15) & (below == 15)
 }

@@ -165,8 +165,8 @@ impl SubbandChannel {
         self
     }
 
-    // What the bands learn from the ratios of the sums. Sums and low energy are looked at from copies, so that the compiler makes
-    // vector code of the loops.
+    // What the bands learn from the ratios of the sums. Sums and low energy are looked at from copies, so that a compiler can
+    // make vector code of the loops.
     fn learnt(mut self, settings: SubbandSettings) -> SubbandChannel
         ensures { result ≡ learnt_by settings self }
     {

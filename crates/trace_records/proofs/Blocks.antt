@@ -1,20 +1,20 @@
 -- A block in tables: how long its lists are, the loop that reads its numbers, and where each list stands among them.
 use mathlib.Core.Path.{◌≡◌, refl, sym, ap, ◌∙◌}
-use mathlib.Core.Bool.{Bool, true, false, ◌&&◌}
+use mathlib.Core.Bool.{Bool, true, false}
 use mathlib.Core.List.{List, ◌∷◌, map}
 use Prim.Native.Nat.{ℕ, zero, suc, ◌+◌, ◌-◌, ◌*◌, ◌/◌, ◌%◌, ◌≤◌, ◌<◌}
 use native.Mathlib.Omega.{arith}
 use borrow.Author.Tests.{ltb-true, ltb-false}
 use lib.Dec.{ltb}
 use lib.Ieee.{Float, nan, binary32, of_bits}
-use lib.ListN.{length, set, take, drop, length-drop}
+use lib.ListN.{length, set, take, drop, get_or, length-drop}
 use lib.Seq.{ext_get_or, get_or-take, get_or-drop, length-take-le}
 use Rattle.aec3_common.specs.Binary32.{greatest_value, within, values_ok}
 use Rattle.aec3_common.specs.Calls.{values_in_range}
 use Rattle.aec3_common.specs.Lists.{tab}
 use Rattle.aec3_common.specs.Spectra.{part}
 use Rattle.aec3_common.proofs.Choices.{each-of-three}
-use Rattle.aec3_common.proofs.Every.{every-at, every-by, Tested, tested-none, tested-more, tested-all}
+use Rattle.aec3_common.proofs.Every.{every-at, every-by}
 use Rattle.aec3_common.proofs.Tables.{length-tab, get_or-tab, get_or-tab-first, tab-is, tab-same, Stored, stored-none, stored_more}
 use Rattle.encoding.specs.Bytes.{byte_at, half_at, word_at}
 use Rattle.trace_records.specs.Records.{is_set, value_at, converged_byte, flags_in, spectrum_at, render_place, render_in, spectra_at, capture_place, capture_in, residual_place, residual_in}
@@ -90,36 +90,21 @@ four_bytes r i =
     let next : i + 2 + 1 ≡ i + 3 = omega arith in
     rw next
 
--- What the loop has done at k: the first k numbers stand in the table, and ok says whether all of them pass.
-pub record Reading (n : ℕ) (r : List ℕ) (xs ys : List Float) (ok : Bool) (k : ℕ) : Type 0 where
+-- What the loop has done at k: the first k numbers stand in the table.
+pub record Reading (n : ℕ) (r : List ℕ) (xs ys : List Float) (k : ℕ) : Type 0 where
   pub few : n ≤ 4
   pub whole : length r ≡ block_length n
   pub stored : Stored 585 nan 0 (65 + 130 * n) (number_at n r) xs ys k
-  pub tested : Tested passes (numbers_in n r) k ok
 
 pub reading-none :
-    (n : ℕ) (r : List ℕ) (xs : List Float) → n ≤ 4 → length r ≡ block_length n → length xs ≡ 585 → Reading n r xs xs true 0
+    (n : ℕ) (r : List ℕ) (xs : List Float) → n ≤ 4 → length r ≡ block_length n → length xs ≡ 585 → Reading n r xs xs 0
 reading-none n r xs few whole long =
-    record {
-      few = few;
-      whole = whole;
-      stored = stored-none nan 0 (65 + 130 * n) (number_at n r) xs (omega arith) long;
-      tested = tested-none passes (numbers_in n r);
-    }
+    record { few = few; whole = whole; stored = stored-none nan 0 (65 + 130 * n) (number_at n r) xs (omega arith) long }
 
 pub reading-more :
-    {n : ℕ} {r : List ℕ} {xs ys : List Float} {ok : Bool} {k : ℕ} {b : Bool} (v : Float)
-    → Reading n r xs ys ok k → k < 65 + 130 * n → v ≡ number_at n r k → b ≡ passes v
-    → Reading n r xs (set ys k v) (ok && b) (k + 1)
-reading-more {n = n} {r = r} {k = k} v s h e told =
-    record {
-      few = s.few;
-      whole = s.whole;
-      stored = stored_more v s.stored h (omega (arith, s.few)) e;
-      tested =
-          tested-more nan s.tested (omega (arith, length-tab (65 + 130 * n) (number_at n r)))
-          (told ∙ ap passes (e ∙ sym (get_or-tab (65 + 130 * n) (number_at n r) k nan h)));
-    }
+    {n : ℕ} {r : List ℕ} {xs ys : List Float} {k : ℕ} (v : Float)
+    → Reading n r xs ys k → k < 65 + 130 * n → v ≡ number_at n r k → Reading n r xs (set ys k v) (k + 1)
+reading-more v s h e = record { few = s.few; whole = s.whole; stored = stored_more v s.stored h (omega (arith, s.few)) e }
 
 -- ---- where each list stands among the numbers
 
@@ -242,12 +227,18 @@ numbers-tested n r =
             let back = ltb-false ((k - 65) % 130) 65 q in
             in_list 130 lists.2 ((k - 65) / 130) ((k - 65) % 130 - 65) k (omega arith) (omega arith) (omega arith)
 
--- the loop has ended
+-- the loop has ended, and what was read is judged
 pub reading-all :
-    {n : ℕ} {r : List ℕ} {xs ys : List Float} {ok : Bool} {k : ℕ} → Reading n r xs ys ok k → 65 + 130 * n ≤ k → BlockRead n r ys ok
-reading-all {n = n} {r = r} s h =
-    record {
-      long = s.stored.long;
-      each = λ j b. s.stored.done j (omega arith) (omega arith);
-      told = tested-all s.tested (omega (arith, length-tab (65 + 130 * n) (number_at n r))) ∙ numbers-tested n r;
-    }
+    {n : ℕ} {r : List ℕ} {xs ys : List Float} {ok : Bool} {k : ℕ}
+    → Reading n r xs ys k → 65 + 130 * n ≤ k → ok ≡ values_ok (take (65 + 130 * n) ys) → BlockRead n r ys ok
+reading-all {n = n} {r = r} {ys = ys} s h told =
+    record { long = s.stored.long; each = each; told = told ∙ ap values_ok all ∙ numbers-tested n r }
+  where
+    each : (j : ℕ) → j < 65 + 130 * n → get_or ys j nan ≡ number_at n r j
+    each j b = s.stored.done j (omega arith) (omega arith)
+
+    all : take (65 + 130 * n) ys ≡ numbers_in n r
+    all =
+        tab-is (65 + 130 * n) nan (number_at n r) (take (65 + 130 * n) ys)
+        (length-take-le (65 + 130 * n) ys (omega (arith, s.few, s.stored.long)))
+        (λ j b. get_or-take (65 + 130 * n) ys j nan b ∙ each j b)

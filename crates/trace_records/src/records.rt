@@ -9,7 +9,7 @@ ghost use Rattle.trace_records.specs.Judge.{block_length};
 ghost use Rattle.trace_records.specs.Steps.{record_from, flag_table, BlockRead};
 
 use aec3_common::ErleSettings;
-use aec3_common::binary32::{GREATEST_VALUE, is_within};
+use aec3_common::binary32::values_ok;
 use encoding::{byte_at, float_of, half_at, word_at};
 
 const SETTINGS_KIND: u32 = 0x0001;
@@ -129,17 +129,14 @@ pub fn flags_in(record: &[u8], num_capture_channels: usize) -> [bool; 4]
 fn value_of(b0: u8, b1: u8, b2: u8, b3: u8) -> f32
     ensures { result ≡ of_bits binary32 (b0 + 256 * b1 + 65536 * (b2 + 256 * b3)) }
 {
-    let low = b0 as u32 + 256 * (b1 as u32);
-    let high = b2 as u32 + 256 * (b3 as u32);
-    float_of(low + 65536 * high)
+    float_of(b0 as u32 + 256 * (b1 as u32) + 65536 * (b2 as u32) + 16777216 * (b3 as u32))
 }
 
 // The numbers of a block of four channels.
 pub const MOST_VALUES: usize = 585;
 
 // Reads all numbers of a block into a table, as they stand in the record: render power, then of each channel capture and residual power.
-// Answers whether number 6 lets them pass. The bytes are read here, with no test of where the record ends, and each number is judged as it
-// is read, with no early way out, so that the compiler makes vector code of the loop.
+// Answers whether number 6 lets them pass. The bytes are read here, with no test of where the record ends.
 pub fn read_block(
     record: &[u8],
     num_capture_channels: usize,
@@ -150,12 +147,9 @@ pub fn read_block(
 {
     let place = 2 + num_capture_channels;
     let count = 65 + 130 * num_capture_channels;
-    let mut ok = true;
     for k in 0..count {
         let i = place + 4 * k;
-        let value = value_of(record[i], record[i + 1], record[i + 2], record[i + 3]);
-        values[k] = value;
-        ok = ok & is_within(value, GREATEST_VALUE);
+        values[k] = value_of(record[i], record[i + 1], record[i + 2], record[i + 3]);
     }
-    ok
+    values_ok(&values[..count])
 }

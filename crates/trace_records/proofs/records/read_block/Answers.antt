@@ -6,8 +6,7 @@ pub loop-k-init : goal.loop-k-init
 loop-k-init c = reading-none _ _ _ c.requires.1 c.requires.0 c.requires.2
 
 pub loop-k-preserved : goal.loop-k-preserved
-loop-k-preserved c =
-    reading-more _ c.loop-k.invariant c.loop-k-test.true (c.value_of-value.ensures ∙ four_bytes _ _) c.is_within-ok.ensures
+loop-k-preserved c = reading-more _ c.loop-k.invariant c.loop-k-test.true (c.value_of.ensures ∙ four_bytes _ _)
 
 pub returns : goal.returns
-returns c = reading-all c.loop-k.invariant c.loop-k-test.false
+returns c = reading-all c.loop-k.invariant c.loop-k-test.false c.values_ok.ensures
