@@ -40,12 +40,7 @@ fn compare_all(name: &Name, file: &str) -> Result<String, String> {
             if count == 1 {
                 difference
             } else {
-                format!(
-                    "{} {} (oracle generate {} {1})\n{difference}",
-                    name.program.input(),
-                    at + 1,
-                    name.name
-                )
+                format!("{}\n{difference}", name.input(at + 1))
             }
         })?;
     }

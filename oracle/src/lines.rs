@@ -14,6 +14,11 @@ impl fmt::Display for Hex {
     }
 }
 
+/// The binary32 number of such digits.
+pub fn number(hex: &str) -> f32 {
+    f32::from_bits(u32::from_str_radix(hex, 16).expect("eight digits"))
+}
+
 /// A binary32 number, or `absent`.
 pub struct Optional(pub Option<f32>);
 

@@ -15,6 +15,7 @@ mod speed_trace;
 #[cfg(test)]
 mod tests;
 mod trace;
+mod watch;
 
 // The published modules `api` and `audio_processing`, see build.rs.
 include!(concat!(env!("OUT_DIR"), "/published.rs"));
@@ -33,6 +34,7 @@ const USAGE: &str = "usage:
   oracle trace NAME [NUMBER] > trace
   oracle trace big MEGABYTES CHANNELS > trace
   oracle compare [REPLAY [REPLAY_PARTS [TRACE_PRINTER]]]
+  oracle watch
   oracle samples PROGRAM DIR
   oracle speed
   oracle speed_trace MEGABYTES CHANNELS [TRACE_PRINTER]
@@ -51,6 +53,7 @@ fn main() -> ExitCode {
         ["trace", name] => generate(&trace_name(name), None),
         ["trace", name, number] => generate(&trace_name(name), Some(number)),
         ["compare", ref files @ ..] if files.len() <= Program::ALL.len() => compare_with(files),
+        ["watch"] => Ok(status(watch::watch())),
         ["samples", program, folder] => write_samples(program, Path::new(folder)),
         ["speed"] => speed(),
         ["speed_trace", megabytes, channels] => {
@@ -133,10 +136,15 @@ fn compare_with(files: &[&str]) -> Result<ExitCode, String> {
         Some(file) => file,
         None => &built[program as usize][..],
     };
-    if compare::compare(said) {
-        Ok(ExitCode::SUCCESS)
+    Ok(status(compare::compare(said)))
+}
+
+/// The exit status where all have passed, or not.
+fn status(passed: bool) -> ExitCode {
+    if passed {
+        ExitCode::SUCCESS
     } else {
-        Ok(ExitCode::FAILURE)
+        ExitCode::FAILURE
     }
 }
 

@@ -37,6 +37,7 @@ pub fn take_record_of<'a>(
 }
 
 /// The fields of a body, read from its front.
+#[derive(Clone)]
 pub struct Fields<'a> {
     rest: &'a [u8],
 }

@@ -17,6 +17,7 @@ use crate::judge;
 use crate::kinds::call::Call;
 use crate::kinds::part::Part;
 use crate::kinds::standing::Estimator;
+use crate::lines::number;
 use crate::program::Program;
 use crate::record::{take_record, Record};
 use crate::run::run;
@@ -86,11 +87,6 @@ impl Standing {
         assert_eq!(fields.len(), judge::BANDS);
         number(fields[band]).to_bits()
     }
-}
-
-/// A binary32 number from its eight digits.
-fn number(hex: &str) -> f32 {
-    f32::from_bits(u32::from_str_radix(hex, 16).unwrap())
 }
 
 /// How many records of a kind the scripts of a name hold.

@@ -4,9 +4,10 @@ use lib.Ieee.{Float}
 use Rattle.aec3_common.specs.Binary32.{values_ok}
 use Rattle.aec3_common.specs.Refusal.{unless, accepted, bad_channel_count, bad_state}
 use Rattle.aec3_common.specs.Settings.{max_capture_channels, limits_ok, capture_channels_ok, sections_ok, limits_and_channels_refusal, sectioned_settings_refusal}
-use Rattle.aec3_common.specs.Calls.{run_by, lengths_ok, values_in_range, call_refusal}
-use Rattle.aec3_common.proofs.Choices.{passed, later-passed, first-of-passed, each-of-three, each-of-four}
+use Rattle.aec3_common.specs.Calls.{run_by, lengths_ok, value_refusal, call_refusal}
+use Rattle.aec3_common.proofs.Choices.{passed, later-passed, first-of-passed, each-of-four}
 use Rattle.aec3_common.proofs.Ranges.{from-lo, to-hi}
+use Rattle.aec3_common.proofs.Values.{values-passed, both-accepted, values-not-20}
 
 module _ (min max_l max_h : Float) (n : ℕ) (e : limits_and_channels_refusal min max_l max_h n ≡ accepted) where
   pub limits-passed : limits_ok min max_l max_h ≡ true
@@ -54,23 +55,23 @@ pub update-ok :
 unfolding call_refusal
 update-ok ok n channels converged render capture residual e =
     let lengths = lengths_ok channels converged render capture residual in
-    let values = values_in_range render capture residual in
-    let counted = later-passed ok 19 (unless (eqb channels n) 21 (unless lengths 5 (unless values 6 0))) e in
-    let measured = later-passed (eqb channels n) 20 (unless lengths 5 (unless values 6 0)) counted in
-    let same = eqb-true channels n (passed (eqb channels n) 20 (unless lengths 5 (unless values 6 0)) counted) in
-    let long = passed lengths 4 (unless values 6 0) measured in
-    let good = passed values 5 0 (later-passed lengths 4 (unless values 6 0) measured) in
+    let values = value_refusal (render ++ capture ++ residual) in
+    let counted = later-passed ok 19 (unless (eqb channels n) 21 (unless lengths 5 values)) e in
+    let measured = later-passed (eqb channels n) 20 (unless lengths 5 values) counted in
+    let same = eqb-true channels n (passed (eqb channels n) 20 (unless lengths 5 values) counted) in
+    let long = passed lengths 4 values measured in
+    let (firsts, residual_ok) = both-accepted (render ++ capture) residual (later-passed lengths 4 values measured) in
+    let (render_ok, capture_ok) = both-accepted render capture firsts in
     let (flagged, rendered, captured, left) =
     each-of-four (eqb (length converged) channels) (eqb (length render) 65) (eqb (length capture) (channels * 65)) (eqb (length residual) (channels * 65)) long in
-    let (render_ok, capture_ok, residual_ok) = each-of-three (values_ok render) (values_ok capture) (values_ok residual) good in
     record {
-      state = passed ok 19 (unless (eqb channels n) 21 (unless lengths 5 (unless values 6 0))) e;
+      state = passed ok 19 (unless (eqb channels n) 21 (unless lengths 5 values)) e;
       flags = rw same at (eqb-true (length converged) channels flagged);
       long_render = eqb-true (length render) 65 rendered;
       long_capture = rw same at (eqb-true (length capture) (channels * 65) captured);
       long_residual = rw same at (eqb-true (length residual) (channels * 65) left);
-      capture_ok = capture_ok;
-      residual_ok = residual_ok;
+      capture_ok = values-passed capture capture_ok;
+      residual_ok = values-passed residual residual_ok;
     }
 
 -- an update of a state that number 20 lets pass is not refused under it
@@ -79,13 +80,12 @@ pub update-not-20 :
     → call_refusal true n channels converged render capture residual ≡ bad_state → ⊥
 unfolding call_refusal
 update-not-20 n channels converged render capture residual =
-    go (eqb channels n) (lengths_ok channels converged render capture residual) (values_in_range render capture residual)
+    go (eqb channels n) (lengths_ok channels converged render capture residual)
   where
-    go : (a b c : Bool) → unless a 21 (unless b 5 (unless c 6 0)) ≡ 20 → ⊥
-    go true true true e = omega arith
-    go true true false e = omega arith
-    go true false c e = omega arith
-    go false b c e = omega arith
+    go : (a b : Bool) → unless a 21 (unless b 5 (value_refusal (render ++ capture ++ residual))) ≡ 20 → ⊥
+    go true true e = values-not-20 (render ++ capture ++ residual) e
+    go true false e = omega arith
+    go false b e = omega arith
 
 -- what every step keeps, a run keeps
 pub run-keeps :

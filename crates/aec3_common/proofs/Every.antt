@@ -52,7 +52,7 @@ every_more p (x ∷ xs) (suc k) d h =
     and_assoc (p x) (every p (take k xs)) (p (get_or xs k d))
     ∙ ap (λ (b : Bool). p x && b) (every_more p xs k d (le_of_suc-le-suc h))
 
-every-append : {A : Type 0} (p : A → Bool) (xs ys : List A) → every p (xs ++ ys) ≡ every p xs && every p ys
+pub every-append : {A : Type 0} (p : A → Bool) (xs ys : List A) → every p (xs ++ ys) ≡ every p xs && every p ys
 unfolding every
 every-append p [] ys = refl
 every-append p (x ∷ xs) ys = ap (λ (b : Bool). p x && b) (every-append p xs ys) ∙ sym (and_assoc (p x) (every p xs) (every p ys))

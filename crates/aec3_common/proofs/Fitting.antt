@@ -10,7 +10,7 @@ use lib.Ieee.Fits.{up_pos, down_pos, and_l, and_r, round-fits}
 use lib.Ieee.Nearest.{div_same}
 use lib.Ieee.Order.{le_of_values, round_mono}
 use lib.Ieee.Positive.{num, den, positive, den_pos, own_value, above, above_of_le, positive_of_value, value_pos, le→cross, cross→le, mul_at}
-use Rattle.aec3_common.specs.Binary32.{zero32, clamped}
+use Rattle.aec3_common.specs.Binary32.{zero32, clamped, is_finite}
 use Rattle.aec3_common.proofs.Numbers.{number}
 use Rattle.aec3_common.proofs.Rounding.{Signed, infinite, finite, failed, at-least-if-not-below, at-most-if-not-above}
 
@@ -126,7 +126,8 @@ value-kept (fin false (suc m) (negsuc k)) p t =
     (lt_of_lt_of_le (shl_lt 24 j few) (pow_mono small))
     (simp (mul-one, mul_assoc, room))
 
-rounds-to-itself : (x : Float) → T (positive x) → T (fits binary32 x) → round binary32 false (num x) (den x) ≡ x
+-- a number that binary32 holds rounds to itself
+pub rounds-to-itself : (x : Float) → T (positive x) → T (fits binary32 x) → round binary32 false (num x) (den x) ≡ x
 rounds-to-itself x p t =
     let r = round binary32 false (num x) (den x) in
     let kept = value-kept x p t in
@@ -136,23 +137,44 @@ rounds-to-itself x p t =
     (le_of_values r x (num x) (den x) (num x) (den x) (den_pos x) (den_pos x) kept own (le_refl _))
     (le_of_values x r (num x) (den x) (num x) (den x) (den_pos x) (den_pos x) own kept (le_refl _))
 
+-- what is at most such a number, or at least, stays so when it is rounded
+pub rounded-at-most :
+    (a c : ℕ) (x : Float) → 0 < c → T (positive x) → T (fits binary32 x) → a * den x ≤ num x * c → T (le (round binary32 false a c) x)
+rounded-at-most a c x some p t h =
+    subst (λ (z : Float). T (le (round binary32 false a c) z)) (rounds-to-itself x p t)
+    (round_mono binary32 a c (num x) (den x) some (den_pos x) h)
+
+pub rounded-at-least :
+    (x : Float) (a c : ℕ) → 0 < c → T (positive x) → T (fits binary32 x) → num x * c ≤ a * den x → T (le x (round binary32 false a c))
+rounded-at-least x a c some p t h =
+    subst (λ (z : Float). T (le z (round binary32 false a c))) (rounds-to-itself x p t)
+    (round_mono binary32 (num x) (den x) a c (den_pos x) some h)
+
 pub times-at-most : (q x : Float) → T (positive q) → num q ≤ den q → T (positive x) → T (fits binary32 x) → T (le (mul binary32 q x) x)
 times-at-most q x p h r t =
     rw (mul_at binary32 q x (num q) (den q) (num x) (den x) p r (den_pos q) (den_pos x) (own_value q p) (own_value x r))
-    (subst (λ (z : Float). T (le (round binary32 false (num q * num x) (den q * den x)) z)) (rounds-to-itself x r t)
-    (round_mono binary32 (num q * num x) (den q * den x) (num x) (den x) (mul-pos (den_pos q) (den_pos x)) (den_pos x)
+    (rounded-at-most (num q * num x) (den q * den x) x (mul-pos (den_pos q) (den_pos x)) r t
     (le_trans (le_of_eq (mul_assoc (num q) (num x) (den x)))
-    (le_trans (mul-le-mul_right (num x * den x) h) (le_of_eq (mul_left_comm (den q) (num x) (den x)))))))
+    (le_trans (mul-le-mul_right (num x * den x) h) (le_of_eq (mul_left_comm (den q) (num x) (den x))))))
 
 -- ---- what is above zero
 
-above_zero : (x : Float) → T (above x) → lt zero32 x ≡ true
+pub above_zero : (x : Float) → T (above x) → lt zero32 x ≡ true
 unfolding lt of_bits
 above_zero nan p = absurd p
 above_zero (inf true) p = absurd p
 above_zero (inf false) p = refl
 above_zero (fin true m e) p = absurd p
 above_zero (fin false m e) p = rw (zero-mul (down e), mul-one (m * up e)) (lt-ltb 0 (m * up e) (mul-pos (ltb→lt 0 m p) (up_pos e)))
+
+-- what is finite and above zero
+pub positive-above-zero : (x : Float) → T (positive x) → lt zero32 x ≡ true
+positive-above-zero x p = above_zero x (above_of_le x x p (level x p))
+
+pub positive-is-finite : (x : Float) → T (positive x) → is_finite x ≡ true
+positive-is-finite nan p = absurd p
+positive-is-finite (inf s) p = absurd p
+positive-is-finite (fin s m e) p = refl
 
 -- a quotient, or what else has a plus sign, is above zero once a positive number is added
 pub plus-above : {x : Float} → Signed false x → (y : Float) → T (positive y) → T (fits binary32 y) → lt zero32 (add binary32 x y) ≡ true
@@ -167,6 +189,5 @@ plus-above (finite m e) (fin false n d) p t =
     let c = down e * down d in
     above_zero (round binary32 false w c)
     (above_of_le y (round binary32 false w c) p
-    (subst (λ (z : Float). T (le z (round binary32 false w c))) (rounds-to-itself y p t)
-    (round_mono binary32 (n * up d) (down d) w c (down_pos d) (mul-pos (down_pos e) (down_pos d))
-    (rw add-mul (omega (arith, mul_assoc (n * up d) (down e) (down d)))))))
+    (rounded-at-least y w c (mul-pos (down_pos e) (down_pos d)) p t
+    (rw add-mul (omega (arith, mul_assoc (n * up d) (down e) (down d))))))

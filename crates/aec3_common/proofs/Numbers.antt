@@ -35,7 +35,7 @@ abbrev pub Whole : ℕ → Type 0
 Whole k = HasValue (round binary32 false k 1) false k 1
 
 -- the test of `le` for two sizes
-at_most : (a b : ℕ) → T (ltb a b || (eqb a b && true)) → a ≤ b
+pub at_most : (a b : ℕ) → T (ltb a b || (eqb a b && true)) → a ≤ b
 at_most a b t = go (ltb a b) (ltb→lt a b) t
   where
     go : (less : Bool) → (T less → a < b) → T (less || (eqb a b && true)) → a ≤ b

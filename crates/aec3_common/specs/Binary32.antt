@@ -1,6 +1,6 @@
 -- binary32 numbers: constants, and the operations that every estimator shares, each rounded once.
-use Rattle.std.specs.Prelude.{Bool, cond, ◌&&◌, List, from_bits, Float}
-use Rattle.std.specs.Float.{binary32}
+use Rattle.std.specs.Prelude.{Bool, true, false, cond, ◌&&◌, List, from_bits, Float}
+use Rattle.std.specs.Float.{nan, inf, fin, binary32}
 use Rattle.std.specs.Float.Ieee.{add, sub, mul, lt, le}
 use Rattle.aec3_common.specs.Lists.{every}
 
@@ -44,7 +44,13 @@ smaller a b = cond (lt b a) b a
 unfoldable pub moved : Float → Float → Float → Float
 moved old new share = add binary32 old (mul binary32 share (sub binary32 new old))
 
--- a number, not below lo nor above hi; a NaN fails
+-- neither a NaN nor an infinity
+abbrev pub is_finite : Float → Bool
+is_finite nan = false
+is_finite (inf s) = false
+is_finite (fin s m e) = true
+
+-- a number, not below lo nor above hi, which are numbers; a NaN fails
 abbrev pub number_from : Float → Float → Float → Bool
 number_from lo hi x = le lo x && le x hi
 

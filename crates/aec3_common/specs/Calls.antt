@@ -1,5 +1,5 @@
--- Calls of an ERLE estimator: lists of them, and which updates are turned away.
-use Rattle.std.specs.Prelude.{ℕ, ◌*◌, Bool, ◌&&◌, List, [], ◌∷◌, length, ◌==◌, Float}
+-- Calls of an estimator: lists of them, and which updates are turned away.
+use Rattle.std.specs.Prelude.{ℕ, ◌*◌, Bool, ◌&&◌, List, [], ◌∷◌, ◌++◌, length, ◌==◌, Float}
 use Rattle.aec3_common.specs.Binary32.{values_ok}
 use Rattle.aec3_common.specs.Refusal.{unless, accepted, bad_length, bad_value, bad_state, other_channel_count}
 
@@ -25,9 +25,9 @@ lengths_ok channels converged render capture residual =
     && length capture == channels * 65
     && length residual == channels * 65
 
--- number 6, of render, capture and residual power
-abbrev pub values_in_range : List Float → List Float → List Float → Bool
-values_in_range render capture residual = values_ok render && values_ok capture && values_ok residual
+-- of all values that a call is lent, one list behind the other: 6, or 0
+unfoldable pub value_refusal : List Float → ℕ
+value_refusal values = unless (values_ok values) bad_value accepted
 
 -- The first of 20, 21, 5 and 6, or 0. The state is told by whether number 20 lets it pass, and by its channel count.
 unfoldable pub call_refusal : Bool → ℕ → ℕ → List Bool → List Float → List Float → List Float → ℕ
@@ -35,5 +35,4 @@ call_refusal state_ok count channels converged render capture residual =
     unless state_ok bad_state
     (unless (channels == count) other_channel_count
     (unless (lengths_ok channels converged render capture residual) bad_length
-    (unless (values_in_range render capture residual) bad_value
-    accepted)))
+    (value_refusal (render ++ capture ++ residual))))

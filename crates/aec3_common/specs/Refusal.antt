@@ -1,5 +1,5 @@
 -- The numbers under which a call or a record is turned away, and how the first of them in order is found.
-use Rattle.std.specs.Prelude.{ℕ, Bool, cond, ◌&&◌, ◌==◌, nat_le}
+use Rattle.std.specs.Prelude.{ℕ, Bool, cond, ◌&&◌, ◌==◌, nat_lt, nat_le}
 
 -- the call is accepted
 abbrev pub accepted : ℕ
@@ -87,3 +87,7 @@ unless test n later = cond test later n
 -- a refusal that was found, else what the later tests say
 abbrev pub first_of : ℕ → ℕ → ℕ
 first_of n later = cond (n == accepted) later n
+
+-- the lesser of two refusals, where 0 is none
+unfoldable pub lesser : ℕ → ℕ → ℕ
+lesser a b = cond (a == accepted) b (cond (b == accepted) a (cond (nat_lt a b) a b))

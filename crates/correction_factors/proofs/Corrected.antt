@@ -4,12 +4,11 @@ use mathlib.Core.Bool.{Bool, true, false, cond, ◌&&◌}
 use mathlib.Core.List.{List, []}
 use Prim.Native.Nat.{ℕ, ◌+◌, ◌≤◌, ◌<◌}
 use native.Mathlib.Omega.{arith}
-use borrow.Author.Tests.{eqb-true, eqb-false, leb-true, leb-false, le-leb, lt-ltb}
+use borrow.Author.Tests.{eqb-true, eqb-false, leb-true, leb-false, le-leb, lt-ltb, le-ltb}
 use lib.Dec.{leb, ltb, eqb}
-use lib.Ieee.{Float, nan, binary32, mul}
+use lib.Ieee.{Float, nan}
 use lib.ListN.{length, get_or, set, length-set}
 use lib.Seq.{get_or-set_same, get_or-set_other}
-use Rattle.aec3_common.specs.Binary32.{clamped}
 use Rattle.aec3_common.specs.Lists.{tab, every}
 use Rattle.aec3_common.proofs.Choices.{and_left, and_right, cond_has}
 use Rattle.aec3_common.proofs.Every.{every-at}
@@ -17,7 +16,7 @@ use Rattle.aec3_common.proofs.Tables.{length-tab, get_or-tab, tab-is, tab-same}
 use Rattle.filter_sections.specs.Subbands.{subband_begin, band_to_subband, max_erle}
 use Rattle.correction_factors.specs.Factors.{entry_of}
 use Rattle.correction_factors.specs.Steps.{first_band, factors_put, factors_of, corrected_by}
-use Rattle.correction_factors.specs.Streams.{own_or_63, factor_of, corrected, last_copied}
+use Rattle.correction_factors.specs.Streams.{own_or_63, factor_of, corrected_band, corrected, last_copied}
 
 -- ---- bands and subbands
 
@@ -115,14 +114,27 @@ last-copied s =
         rw last (get_or-set_same s 64 (get_or s 63 nan) nan (omega arith))
     at k b false p = get_or-set_other s 64 k (get_or s 63 nan) nan (λ e. omega (arith, eqb-false k 64 p))
 
+-- the band whose figure a band shows is one
+pub own-inside : (j : ℕ) → j < 65 → own_or_63 j < 65
+own-inside j b = cond_has (λ n. n < 65) (eqb j 64) (λ e. omega arith) (λ e. b)
+
+-- and has the same maximum
+pub own-max : (max_l max_h : Float) (j : ℕ) → max_erle max_l max_h (own_or_63 j) ≡ max_erle max_l max_h j
+unfolding max_erle
+own-max max_l max_h j = ap (λ (t : Bool). cond t max_l max_h) (go (eqb j 64) refl)
+  where
+    go : (last : Bool) → eqb j 64 ≡ last → ltb (cond last 63 j) 32 ≡ ltb j 32
+    go true e = sym (le-ltb j 32 (omega (arith, eqb-true j 64 e)))
+    go false e = refl
+
 -- an average corrected band by band, and then the last band copied
 pub corrected-is :
     (min max_l max_h : Float) (factors : List Float) (active : List ℕ) (average : List Float)
     → last_copied (corrected_by min max_l max_h (factors_of factors active) average) ≡ corrected min max_l max_h factors active average
 unfolding last_copied corrected_by factors_of corrected
 corrected-is min max_l max_h factors active average =
-    rw (length-tab 65 (λ k. clamped (mul binary32 (get_or average k nan) (get_or (tab 65 (λ k. factor_of factors active k)) k nan)) min (max_erle max_l max_h k)))
-    (tab-same 65 nan _ _ (λ j b. let inside : own_or_63 j < 65 = own-inside j b in rw (get_or-tab 65 _ (own_or_63 j) nan inside, get_or-tab 65 _ (own_or_63 j) nan inside)))
-  where
-    own-inside : (j : ℕ) → j < 65 → own_or_63 j < 65
-    own-inside j b = cond_has (λ n. n < 65) (eqb j 64) (λ e. omega arith) (λ e. b)
+    rw (length-tab 65 (λ k. corrected_band min max_l max_h k (get_or average k nan) (get_or (tab 65 (λ k. factor_of factors active k)) k nan)))
+    (tab-same 65 nan _ _
+    (λ j b.
+    let inside : own_or_63 j < 65 = own-inside j b in
+    rw (get_or-tab 65 _ (own_or_63 j) nan inside, get_or-tab 65 _ (own_or_63 j) nan inside)))

@@ -1,4 +1,5 @@
 pub mod Constants
 pub mod Factors
+pub mod Range
 pub mod Steps
 pub mod Streams

@@ -1,13 +1,11 @@
 -- What inner functions of the code promise; no part of the definition.
 use Rattle.std.specs.Prelude.{Bool, cond, ◌&&◌, List, ℕ, leb, ltb, eqb, Float, get_or}
-use Rattle.std.specs.Float.{nan, binary32}
-use Rattle.std.specs.Float.Ieee.{mul}
-use Rattle.aec3_common.specs.Binary32.{clamped}
+use Rattle.std.specs.Float.{nan}
 use Rattle.aec3_common.specs.Counts.{one_more}
 use Rattle.aec3_common.specs.Lists.{tab}
-use Rattle.filter_sections.specs.Subbands.{subband_begin, max_erle}
+use Rattle.filter_sections.specs.Subbands.{subband_begin}
 use Rattle.correction_factors.specs.Factors.{erle_moved, subband_max, entry_of}
-use Rattle.correction_factors.specs.Streams.{factor_of}
+use Rattle.correction_factors.specs.Streams.{factor_of, corrected_band}
 
 -- a count of updates, one more where the subband is updated
 unfoldable pub count_with : Bool → ℕ → ℕ
@@ -33,4 +31,4 @@ factors_of factors active = tab 65 (λ k. factor_of factors active k)
 -- each band of an average stream times its factor, clamped
 unfoldable pub corrected_by : Float → Float → Float → List Float → List Float → List Float
 corrected_by min max_l max_h factors average =
-    tab 65 (λ k. clamped (mul binary32 (get_or average k nan) (get_or factors k nan)) min (max_erle max_l max_h k))
+    tab 65 (λ k. corrected_band min max_l max_h k (get_or average k nan) (get_or factors k nan))

@@ -15,13 +15,17 @@ own_or_63 k = cond (eqb k 64) 63 k
 unfoldable pub factor_of : List Float → List ℕ → ℕ → Float
 factor_of factors active k = entry_of factors (get_or active k 0) (band_to_subband k)
 
+-- a band's average times a factor, clamped to the band's limits
+unfoldable pub corrected_band : Float → Float → Float → ℕ → Float → Float → Float
+corrected_band min max_l max_h k average factor = clamped (mul binary32 average factor) min (max_erle max_l max_h k)
+
 -- Bands 0 to 63 become the subband estimator's stream times the band's factor, clamped; 64 copies 63.
 unfoldable pub corrected : Float → Float → Float → List Float → List ℕ → List Float → List Float
 corrected min max_l max_h factors active average =
     tab 65
     (λ j.
     let k = own_or_63 j in
-    clamped (mul binary32 (get_or average k nan) (factor_of factors active k)) min (max_erle max_l max_h k))
+    corrected_band min max_l max_h k (get_or average k nan) (factor_of factors active k))
 
 -- a stream that is not corrected keeps bands 0 to 63; 64 copies 63 all the same
 unfoldable pub last_copied : List Float → List Float

@@ -1,10 +1,6 @@
 // A stream of a channel, corrected band by band.
 ghost use Rattle.std.specs.Prelude.{◌≡◌, ℕ, ◌≤◌, ◌<◌, length, get_or};
-ghost use Rattle.std.specs.Float.{binary32};
-ghost use Rattle.std.specs.Float.Ieee.{mul};
-ghost use Rattle.aec3_common.specs.Binary32.{clamped};
-ghost use Rattle.filter_sections.specs.Subbands.{max_erle};
-ghost use Rattle.correction_factors.specs.Streams.{last_copied};
+ghost use Rattle.correction_factors.specs.Streams.{corrected_band, last_copied};
 ghost use Rattle.correction_factors.specs.Steps.{first_band, factors_put, factors_of, corrected_by};
 
 use crate::ErleLimits;
@@ -61,8 +57,9 @@ pub fn band_factors(factors: &[f32; 48], active: &[u32; 65]) -> [f32; 65]
     r
 }
 
+#[tactic(auto, unfolding(crate::specs::Streams::corrected_band))]
 fn corrected_band(average: f32, factor: f32, limits: ErleLimits, k: usize) -> f32
-    ensures { result ≡ clamped (mul binary32 average factor) limits.min (max_erle limits.max_l limits.max_h k) }
+    ensures { result ≡ corrected_band limits.min limits.max_l limits.max_h k average factor }
 {
     let max = max_erle(limits.max_l, limits.max_h, k);
     clamp(average * factor, limits.min, max)

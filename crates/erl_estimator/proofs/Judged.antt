@@ -1,7 +1,7 @@
 -- What an update that is not turned away tells of its counts and lengths.
 use mathlib.Core.Path.{◌≡◌}
 use mathlib.Core.Bool.{Bool, true, ◌&&◌}
-use mathlib.Core.List.{List}
+use mathlib.Core.List.{List, ◌++◌}
 use Prim.Native.Nat.{ℕ, ◌*◌, ◌≤◌, ◌<◌}
 use borrow.Author.Tests.{eqb-true}
 use lib.Dec.{eqb}
@@ -9,8 +9,8 @@ use lib.Ieee.{Float}
 use lib.ListN.{length}
 use Rattle.aec3_common.proofs.Choices.{and_left, and_right, passed}
 use Rattle.aec3_common.proofs.Ranges.{from-lo, to-hi}
-use Rattle.aec3_common.specs.Binary32.{values_ok}
-use Rattle.aec3_common.specs.Refusal.{unless, accepted, bad_length, bad_value}
+use Rattle.aec3_common.specs.Calls.{value_refusal}
+use Rattle.aec3_common.specs.Refusal.{unless, accepted, bad_length}
 use Rattle.aec3_common.specs.Settings.{capture_channels_ok, render_channels_ok, max_capture_channels, max_render_channels}
 use Rattle.erl_estimator.specs.Erl.{channels_ok, lengths_ok, update_refusal}
 
@@ -32,12 +32,12 @@ module _
     unfolding update_refusal
     channels-passed =
         passed (channels_ok captures renders) 1
-        (unless (lengths_ok captures renders converged render capture) bad_length (unless (values_ok render && values_ok capture) bad_value accepted)) ok
+        (unless (lengths_ok captures renders converged render capture) bad_length (value_refusal (render ++ capture))) ok
 
     lengths-passed : lengths_ok captures renders converged render capture ≡ true
     unfolding update_refusal
     lengths-passed =
-        passed (lengths_ok captures renders converged render capture) 4 (unless (values_ok render && values_ok capture) bad_value accepted)
+        passed (lengths_ok captures renders converged render capture) 4 (value_refusal (render ++ capture))
         (rw channels-passed at ok)
 
     -- flags and renders

@@ -1,16 +1,18 @@
 -- Echo return loss: the ERL of each band, and the time-domain ERL.
-use Rattle.std.specs.Prelude.{Bool, cond, ◌&&◌, ◌||◌, List, [], ◌∷◌, map, ℕ, suc, ◌-◌, ◌*◌, ltb, eqb, ℤ, pos, Float, length, get_or}
+use Rattle.std.specs.Prelude.{Bool, cond, ◌&&◌, ◌||◌, List, [], ◌∷◌, ◌++◌, map, ℕ, suc, ◌-◌, ◌*◌, ltb, eqb, ℤ, pos, Float, length, get_or}
 use Rattle.std.specs.Float.{nan}
 use Rattle.aec3_common.specs.Lists.{tab}
-use Rattle.aec3_common.specs.Binary32.{energy_threshold, sum_threshold, values_ok}
+use Rattle.aec3_common.specs.Binary32.{energy_threshold, sum_threshold}
+use Rattle.aec3_common.specs.Calls.{value_refusal}
 use Rattle.aec3_common.specs.Counts.{one_more}
-use Rattle.aec3_common.specs.Refusal.{unless, accepted, bad_channel_count, bad_length, bad_value}
+use Rattle.aec3_common.specs.Refusal.{unless, accepted, bad_channel_count, bad_length}
 use Rattle.aec3_common.specs.Settings.{capture_channels_ok, render_channels_ok}
 use Rattle.aec3_common.specs.Spectra.{band_of, shown_band, flagged, sum, greatest_from}
 use Rattle.erl_bands.specs.declared.figure.Figure.{Figure}
 use Rattle.erl_bands.specs.Figure.{max_erl, after_block}
 use Rattle.erl_estimator.specs.declared.ErlEstimator.{ErlEstimator}
 use Rattle.erl_estimator.specs.declared.ErlUpdate.{ErlUpdate}
+use Rattle.erl_estimator.specs.declared.settings.ErlSettings.{ErlSettings}
 
 -- ---- spectra reduced to their per-band greatest over some channels
 
@@ -25,14 +27,14 @@ reduced spectra channels = tab 65 (greatest_over spectra channels)
 -- ---- the whole estimator
 
 -- a start gives 1,000 and holds 0
-unfoldable pub started : ℕ → ErlEstimator
-started startup =
+unfoldable pub started : ErlSettings → ErlEstimator
+started settings =
     record {
       erl = tab 65 (λ k. max_erl);
       hold_counters = tab 63 (λ k. pos 0);
       erl_time_domain = max_erl;
       hold_counter_time_domain = pos 0;
-      startup_phase_length_blocks = startup;
+      settings = settings;
       blocks_since_reset = 0;
     }
 
@@ -44,7 +46,7 @@ with_count s n =
       hold_counters = s.hold_counters;
       erl_time_domain = s.erl_time_domain;
       hold_counter_time_domain = s.hold_counter_time_domain;
-      startup_phase_length_blocks = s.startup_phase_length_blocks;
+      settings = s.settings;
       blocks_since_reset = n;
     }
 
@@ -74,7 +76,7 @@ learnt_from s render capture =
       hold_counters = tab 63 (λ k. (band (suc k)).hold);
       erl_time_domain = time.erl;
       hold_counter_time_domain = time.hold;
-      startup_phase_length_blocks = s.startup_phase_length_blocks;
+      settings = s.settings;
       blocks_since_reset = s.blocks_since_reset;
     }
 
@@ -83,7 +85,7 @@ learnt_from s render capture =
 unfoldable pub updated : ErlEstimator → ℕ → List Bool → List Float → List Float → ErlEstimator
 updated s renders converged render capture =
     let channels = flagged 0 converged in
-    cond (eqb (length channels) 0 || ltb (counted s).blocks_since_reset s.startup_phase_length_blocks) (counted s)
+    cond (eqb (length channels) 0 || ltb (counted s).blocks_since_reset s.settings.startup_phase_length_blocks) (counted s)
     (learnt_from (counted s) (reduced render (tab renders (λ ch. ch))) (reduced capture channels))
 
 -- ---- calls turned away
@@ -100,8 +102,7 @@ unfoldable pub update_refusal : ℕ → ℕ → List Bool → List Float → Lis
 update_refusal captures renders converged render capture =
     unless (channels_ok captures renders) bad_channel_count
     (unless (lengths_ok captures renders converged render capture) bad_length
-    (unless (values_ok render && values_ok capture) bad_value
-    accepted))
+    (value_refusal (render ++ capture)))
 
 -- The answer: the next state and 0, or the state as it was and the refusal.
 unfoldable pub update_answer : ErlEstimator → ℕ → ℕ → List Bool → List Float → List Float → ErlUpdate

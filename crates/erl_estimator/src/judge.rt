@@ -2,10 +2,10 @@
 ghost use Rattle.std.specs.Prelude.{◌≡◌};
 ghost use Rattle.erl_estimator.specs.Erl.{channels_ok, lengths_ok, update_refusal};
 
-use aec3_common::refusal::{ACCEPTED, BAD_CHANNEL_COUNT, BAD_LENGTH, BAD_VALUE};
+use aec3_common::judge::{lesser, value_refusal};
+use aec3_common::refusal::{BAD_CHANNEL_COUNT, BAD_LENGTH};
 use aec3_common::settings::{capture_channels_ok, render_channels_ok};
 use aec3_common::spectra::are_spectra;
-use aec3_common::values_ok;
 
 fn channels_ok(captures: usize, renders: usize) -> bool
     ensures { result ≡ channels_ok captures renders }
@@ -28,7 +28,7 @@ fn lengths_ok(
 }
 
 // The first of 2, 5 and 6, or 0.
-#[tactic(auto, unfolding(crate::specs::Erl::update_refusal))]
+#[tactic(auto, using(aec3_common::proofs::Values::value_refusal_append), unfolding(crate::specs::Erl::update_refusal))]
 pub fn update_refusal(
     captures: usize,
     renders: usize,
@@ -40,11 +40,7 @@ pub fn update_refusal(
 {
     if channels_ok(captures, renders) {
         if lengths_ok(captures, renders, converged, render, capture) {
-            if values_ok(render) & values_ok(capture) {
-                ACCEPTED
-            } else {
-                BAD_VALUE
-            }
+            lesser(value_refusal(render), value_refusal(capture))
         } else {
             BAD_LENGTH
         }

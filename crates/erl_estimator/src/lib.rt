@@ -3,6 +3,7 @@
 
 mod judge;
 mod reduce;
+mod settings;
 
 ghost use Rattle.std.specs.Prelude.{◌≡◌, ◌*◌, ◌≤◌, ◌<◌, length};
 ghost use Rattle.erl_estimator.specs.Erl.{started, counted as Erl·counted, after_reset, learnt_from, updated as Erl·updated, update_answer};
@@ -15,6 +16,7 @@ use erl_bands::bands::{moved_erl, moved_holds, new_erls};
 use erl_bands::figure::{Figure, MAX_ERL, time_domain_after};
 use judge::update_refusal;
 use reduce::{FirstConverged, all_reduced, first_converged, reduced_from};
+pub use settings::ErlSettings;
 
 #[derive(Clone, Copy)]
 pub struct ErlEstimator {
@@ -22,7 +24,7 @@ pub struct ErlEstimator {
     pub hold_counters: [i32; 63],
     pub erl_time_domain: f32,
     pub hold_counter_time_domain: i32,
-    pub startup_phase_length_blocks: u32,
+    pub settings: ErlSettings,
     pub blocks_since_reset: u32,
 }
 
@@ -35,8 +37,8 @@ pub struct ErlUpdate {
 
 impl ErlEstimator {
     // A start. No call to it is turned away. After any later calls every ERL is a number from 0.01 to 1,000.
-    pub fn new(startup_phase_length_blocks: u32) -> ErlEstimator
-        ensures value { result ≡ started startup_phase_length_blocks }
+    pub fn new(settings: ErlSettings) -> ErlEstimator
+        ensures value { result ≡ started settings }
         ensures figures_in_range { FiguresInRange result }
     {
         ErlEstimator {
@@ -44,7 +46,7 @@ impl ErlEstimator {
             hold_counters: [0; 63],
             erl_time_domain: MAX_ERL,
             hold_counter_time_domain: 0,
-            startup_phase_length_blocks,
+            settings,
             blocks_since_reset: 0,
         }
     }
@@ -108,7 +110,7 @@ impl ErlEstimator {
         match first_converged(converged) {
             FirstConverged::Nothing => counted,
             FirstConverged::Channel(first) => {
-                if counted.blocks_since_reset < counted.startup_phase_length_blocks {
+                if counted.blocks_since_reset < counted.settings.startup_phase_length_blocks {
                     counted
                 } else {
                     let reduced_render = all_reduced(render, renders);
@@ -145,7 +147,7 @@ impl ErlEstimator {
             hold_counters,
             erl_time_domain: time.erl,
             hold_counter_time_domain: time.hold,
-            startup_phase_length_blocks: self.startup_phase_length_blocks,
+            settings: self.settings,
             blocks_since_reset: self.blocks_since_reset,
         }
     }

@@ -8,94 +8,39 @@ use borrow.Author.Tests.{leb-true, le-leb}
 use lib.Dec.{T, lit<, lit≤, leb-zero}
 use lib.IntN.{ℤ, pos, negsuc, -ℤ_one}
 use lib.Signed.{le_z}
-use lib.Ieee.{Float, nan, inf, fin, binary32, of_bits, add, mul, lt, le, fits}
-use lib.Ieee.Fits.{add-fits, mul-fits}
-use lib.Ieee.Positive.{positive, above, above_of_le, between, le_trans_positive}
-use Rattle.aec3_common.specs.Binary32.{zero32, one32, larger, moved}
+use lib.Ieee.{Float, binary32, of_bits, add, mul, lt, le}
+use lib.Ieee.Fits.{mul-fits}
+use lib.Ieee.Positive.{positive, between, le_trans_positive}
+use Rattle.aec3_common.specs.Binary32.{zero32, clamped, larger, moved}
 use Rattle.aec3_common.specs.Counts.{fallen}
 use Rattle.aec3_common.specs.Settings.{greatest_erle}
 use Rattle.aec3_common.proofs.Choices.{cond_has}
-use Rattle.aec3_common.proofs.Fitting.{Between, level, clamped-between, times-at-most}
-use Rattle.aec3_common.proofs.Numbers.{number, UpTo, Value, Whole, no-sum, add-up-to, whole_multiple, ratio-plus, moved-number}
+use Rattle.aec3_common.proofs.Fitting.{Between, times-at-most}
+use Rattle.aec3_common.proofs.Limits.{InOrder, min-positive, max-positive, uncapped-in-order, min-between, between-positive, clamped-moved}
+use Rattle.aec3_common.proofs.Numbers.{UpTo, Value, Whole, no-sum, add-up-to, whole_multiple, ratio-plus}
 use Rattle.aec3_common.proofs.Rounding.{Signed}
-use Rattle.erle_bands.specs.Band.{share_up, share_down, decay_factor, share, stream_moved, Sums, sum_with, added, has_ratio, ratio, Streams, streams_learnt, Onset, hold_learnt, onset_learnt, hold_less, decayed, compensated_beside, one_block_less}
+use Rattle.erle_bands.specs.Band.{share_up, share_down, decay_factor, stream_moved, Sums, sum_with, added, has_ratio, ratio, Streams, streams_learnt, Onset, hold_learnt, onset_learnt, hold_less, decayed, compensated_beside, one_block_less}
 
--- ---- a minimum and a maximum
-
--- 1 ≤ min ≤ max ≤ 100,000, and binary32 holds both
-pub record InOrder (min max : Float) : Type 0 where
-  pub from : T (le one32 min)
-  pub order : T (le min max)
-  pub to : T (le max greatest_erle)
-  pub min_held : T (fits binary32 min)
-  pub max_held : T (fits binary32 max)
-
--- a number above zero that is at most one of at most 100,000 is finite
-at-most-finite : (a b : Float) → T (above a) → T (le a b) → T (le b greatest_erle) → T (positive a)
-unfolding le of_bits
-at-most-finite nan b p h k = p
-at-most-finite (inf true) b p h k = p
-at-most-finite (inf false) nan p h k = h
-at-most-finite (inf false) (inf true) p h k = h
-at-most-finite (inf false) (inf false) p h k = k
-at-most-finite (inf false) (fin t n d) p h k = h
-at-most-finite (fin true m e) b p h k = p
-at-most-finite (fin false m e) b p h k = p
-
-pub one-positive : T (positive one32)
-unfolding of_bits
-one-positive = tt
-
-most-positive : T (positive greatest_erle)
-unfolding of_bits
-most-positive = tt
+-- ---- streams
 
 module _ {min max : Float} (limits : InOrder min max) where
-  pub min-positive : T (positive min)
-  min-positive = at-most-finite min max (above_of_le one32 min one-positive limits.from) limits.order limits.to
-
-  pub max-positive : T (positive max)
-  max-positive = between min max greatest_erle min-positive most-positive limits.order limits.to
-
-  -- the uncapped stream's limits
-  pub uncapped-in-order : InOrder min greatest_erle
-  unfolding of_bits le fits
-  uncapped-in-order =
-      record {
-        from = limits.from;
-        order = le_trans_positive min max greatest_erle min-positive max-positive tt limits.order limits.to;
-        to = tt;
-        min_held = limits.min_held;
-        max_held = tt;
-      }
-
-  pub min-between : Between min max min
-  min-between = record { least = level min min-positive; most = limits.order; held = limits.min_held }
-
   module _ {x : Float} (b : Between min max x) where
-    pub between-positive : T (positive x)
-    between-positive = between min x max min-positive max-positive b.least b.most
-
-    pub between-erle : T (le x greatest_erle)
-    between-erle = le_trans_positive x max greatest_erle between-positive max-positive most-positive b.most limits.to
-
     -- a stream that moves towards a ratio keeps its range
     pub moved-between : {new : Float} (low : Bool) → Signed false new → Between min max (stream_moved min max new low x)
-    unfolding stream_moved moved of_bits
-    moved-between {new} low plus =
-        clamped-between min max (moved x new (share new low x)) min-positive max-positive limits.order limits.min_held limits.max_held
-        (go (lt new x) refl low)
-        (add-fits binary32 x (mul binary32 (share new low x) _))
+    unfolding stream_moved of_bits
+    moved-between {new} low plus = go (lt new x) refl low
       where
-        go : (less : Bool) → lt new x ≡ less → (l : Bool) → T (number (moved x new (cond less (cond l zero32 share_down) share_up)))
-        go true e true = moved-number 0 (pos 0) x between-positive between-erle plus (λ z. e)
-        go true e false = moved-number 13421773 (negsuc 26) x between-positive between-erle plus (λ z. e)
-        go false e l = moved-number 13421773 (negsuc 27) x between-positive between-erle plus (λ z. absurd (false≢true z))
+        go :
+            (less : Bool) → lt new x ≡ less → (l : Bool)
+            → Between min max (clamped (moved x new (cond less (cond l zero32 share_down) share_up)) min max)
+        go true e true = clamped-moved limits b 0 (pos 0) plus (λ z. e)
+        go true e false = clamped-moved limits b 13421773 (negsuc 26) plus (λ z. e)
+        go false e l = clamped-moved limits b 13421773 (negsuc 27) plus (λ z. absurd (false≢true z))
 
     -- 0.97 times a number is not above it
     pub decay-at-most : T (le (mul binary32 decay_factor x) x)
     unfolding of_bits
-    decay-at-most = times-at-most decay_factor x tt (lit≤ tt) between-positive b.held
+    decay-at-most = times-at-most decay_factor x tt (lit≤ tt) (between-positive limits b) b.held
 
 -- ---- sums
 

@@ -16,7 +16,8 @@ use Rattle.aec3_common.specs.Settings.{greatest_erle}
 use Rattle.aec3_common.proofs.Fitting.{Between, level}
 use Rattle.aec3_common.proofs.Rounding.{failed, at-most-if-not-above}
 use Rattle.erle_bands.specs.Band.{decay_factor, Onset, hold_less, decayed, compensated_beside, waits_beside, one_block_less}
-use Rattle.erle_bands.proofs.Range.{AtMost, InOrder, one-positive, decay-positive, min-positive, between-positive, between-erle, OnsetKept, less-at-most, decay-at-most, decay-above, one-block-less-kept}
+use Rattle.aec3_common.proofs.Limits.{InOrder, one-positive, min-positive, between-positive, between-erle}
+use Rattle.erle_bands.proofs.Range.{AtMost, decay-positive, OnsetKept, less-at-most, decay-at-most, decay-above, one-block-less-kept}
 
 -- ---- the compensated value decays
 

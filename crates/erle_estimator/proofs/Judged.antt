@@ -1,31 +1,30 @@
 -- What the judging of settings, of a state and of an update tells of the parts.
 use mathlib.Core.Path.{◌≡◌, refl, sym, ap, ◌∙◌}
 use mathlib.Core.Bool.{Bool, true, false, cond, ◌&&◌, true≢false}
-use Prim.Native.Nat.{ℕ, suc, ◌+◌, ◌*◌, ◌≤◌, ◌<◌}
+use Prim.Native.Nat.{ℕ, suc, ◌+◌, ◌≤◌, ◌<◌}
 use native.Mathlib.Omega.{arith}
 use borrow.Author.Tests.{eq-eqb, ne_eqb, eqb-true}
 use lib.Dec.{eqb}
 use lib.ListN.{length, get_or, take}
 use Rattle.aec3_common.specs.declared.settings.ErleSettings.{ErleSettings}
 use Rattle.aec3_common.specs.Binary32.{values_ok}
-use Rattle.aec3_common.specs.Calls.{lengths_ok, values_in_range}
+use Rattle.aec3_common.specs.Calls.{value_refusal}
 use Rattle.aec3_common.specs.Lists.{every}
-use Rattle.aec3_common.specs.Refusal.{unless, first_of, accepted}
-use Rattle.aec3_common.specs.Settings.{headroom_blocks, settings_refusal}
+use Rattle.aec3_common.specs.Refusal.{accepted}
+use Rattle.aec3_common.specs.Settings.{settings_refusal}
 use Rattle.aec3_common.proofs.Calls.{UpdateOk, first-passed}
 use Rattle.aec3_common.proofs.Every.{Tested, tested-none, tested-more}
-use Rattle.aec3_common.proofs.Choices.{each-of-three, each-of-four, passed, later-passed, first-of-passed}
-use Rattle.section_echoes.specs.Walk.{slot_length}
+use Rattle.aec3_common.proofs.Choices.{each-of-three}
 use Rattle.subband_erle_estimator.specs.Subband.{settings_refusal as Subband·settings_refusal, channel_ok as Subband·channel_ok, no_channel as Subband·no_channel, state_ok as Subband·state_ok}
-use Rattle.signal_dependent_erle_estimator.specs.SignalDependent.{settings_refusal as SignalDependent·settings_refusal, boundaries_of, settings_pass, same_first, channel_ok as SignalDependent·channel_ok, no_channel as SignalDependent·no_channel, state_ok as SignalDependent·state_ok, all_lengths_ok, all_values_ok, responses_ok, ring_refusal, refusal_of, update_refusal as SignalDependent·update_refusal}
+use Rattle.signal_dependent_erle_estimator.specs.SignalDependent.{settings_refusal as SignalDependent·settings_refusal, boundaries_of, settings_pass, same_first, channel_ok as SignalDependent·channel_ok, no_channel as SignalDependent·no_channel, state_ok as SignalDependent·state_ok}
 use Rattle.signal_dependent_erle_estimator.specs.Steps.{Passed}
-use Rattle.signal_dependent_erle_estimator.proofs.Judged.{few-captures, eight-sections, update-passed}
+use Rattle.signal_dependent_erle_estimator.proofs.Judged.{few-captures, eight-sections, settings-passed, all-judged, lent-passed, powers-passed}
 use Rattle.fullband_channel.specs.Channel.{channel_ok as FullBand·channel_ok}
 use Rattle.fullband_erle_estimator.specs.FullBand.{settings_refusal as FullBand·settings_refusal, no_channel as FullBand·no_channel, state_ok as FullBand·state_ok}
 use Rattle.erle_estimator.specs.declared.ErleEstimator.{ErleEstimator}
 use Rattle.erle_estimator.specs.Parts.{subband_settings, signal_settings, fullband_settings, subband_part, signal_part, fullband_part}
 use Rattle.erle_estimator.specs.Steps.{judged_channels}
-use Rattle.erle_estimator.specs.Erle.{Update, state_ok, lent_lengths_ok, lent_values_ok, update_refusal}
+use Rattle.erle_estimator.specs.Erle.{Update, state_ok, lent_lengths_ok, lent_values, update_refusal}
 
 -- ---- settings
 
@@ -157,85 +156,30 @@ module _ (s : ErleEstimator) where
 
 -- ---- an update
 
--- the captures and the residuals, of what is lent
-lengths-each :
-    (filter_length : ℕ) (u : Update) → lent_lengths_ok filter_length u ≡ true
-    → (eqb (length u.capture) (u.channels * 65) ≡ true) × (eqb (length u.residual) (u.channels * 65) ≡ true)
-unfolding lent_lengths_ok
-lengths-each filter_length u ok =
-    let first = lengths_ok u.channels u.converged u.render u.capture u.residual in
-    let (firsts, slots, responded) =
-    each-of-three first (eqb (length u.spectra) (u.ring.slots * slot_length u.ring.channels))
-    (responses_ok u.channels filter_length u.counts u.responses) ok in
-    let (flagged, rendered, captured, left) =
-    each-of-four (eqb (length u.converged) u.channels) (eqb (length u.render) 65) (eqb (length u.capture) (u.channels * 65)) (eqb (length u.residual) (u.channels * 65)) firsts in
-    (captured, left)
-
-values-each : (u : Update) → lent_values_ok u ≡ true → (values_ok u.capture ≡ true) × (values_ok u.residual ≡ true)
-unfolding lent_values_ok
-values-each u ok =
-    let (firsts, slots, responded) =
-    each-of-three (values_in_range u.render u.capture u.residual) (values_ok u.spectra) (values_ok u.responses) ok in
-    let (rendered, captured, left) = each-of-three (values_ok u.render) (values_ok u.capture) (values_ok u.residual) firsts in
-    (captured, left)
-
--- tests that were made already change nothing
-made-already : (t a b : Bool) → (t ≡ true → (a ≡ true) × (b ≡ true)) → t && a && b ≡ t
-made-already true a b each = simp ((each refl).0, (each refl).1)
-made-already false a b each = refl
-
--- the signal-dependent part's judging, handed captures and residuals where it is lent two streams
-pub judged-is :
-    (s : ErleEstimator) (u : Update)
-    → refusal_of (state_ok s) (signal_settings s.settings) u u.capture u.residual ≡ update_refusal s u
-unfolding refusal_of update_refusal all_lengths_ok all_values_ok
-judged-is s u =
-    let most = s.settings.filter_length_blocks in
-    rw (made-already (lent_lengths_ok most u) _ _ (lengths-each most u), made-already (lent_values_ok u) _ _ (values-each u))
-
 -- an accepted update: each part passes, and all that is lent fits
 pub record Accepted (s : ErleEstimator) (u : Update) : Type 0 where
   pub state : state_ok s ≡ true
   pub count : u.channels ≡ s.settings.num_capture_channels
   pub few : s.settings.num_capture_channels ≤ 4
-  pub lent : Passed (signal_part s) u u.capture u.residual
+  pub lent : Passed (signal_settings s.settings) u
   pub capture_ok : values_ok u.capture ≡ true
   pub residual_ok : values_ok u.residual ≡ true
 
-module _ (s : ErleEstimator) (u : Update) (e : update_refusal s u ≡ accepted) where
-  state : state_ok s ≡ true
-  unfolding update_refusal
-  state = passed (state_ok s) 19 _ e
-
-  -- the values were judged last
-  values : lent_values_ok u ≡ true
-  unfolding update_refusal
-  values =
-      let g = s.settings in
-      let same = eqb u.channels g.num_capture_channels in
-      let ring = ring_refusal (headroom_blocks g.delay_headroom_samples) u.ring in
-      let lengths = lent_lengths_ok g.filter_length_blocks u in
-      let last = unless (lent_values_ok u) 6 0 in
-      passed (lent_values_ok u) 5 0
-      (later-passed lengths 4 last
-      (first-of-passed ring (unless lengths 5 last) (later-passed same 20 (first_of ring (unless lengths 5 last)) (later-passed (state_ok s) 19 _ e))).1)
-
-  pub accepted-call : Accepted s u
-  unfolding SignalDependent·update_refusal
-  accepted-call =
-      let g = s.settings in
-      let signal = signal-passed s state in
-      let judged = judged-is s u ∙ e in
-      let lent = update-passed (signal_part s) u u.capture u.residual (rw signal (rw state at judged)) in
-      let (capture_ok, residual_ok) = values-each u values in
-      record {
-        state = state;
-        count = lent.count;
-        few = few-captures (signal_settings g) lent.state;
-        lent = lent;
-        capture_ok = capture_ok;
-        residual_ok = residual_ok;
-      }
+pub accepted-call : (s : ErleEstimator) (u : Update) → update_refusal s u ≡ accepted → Accepted s u
+unfolding update_refusal
+accepted-call s u e =
+    let g = signal_settings s.settings in
+    let judged = all-judged (state_ok s) g u (lent_lengths_ok g.filter_length_blocks u) (value_refusal (lent_values u)) e in
+    let lent = lent-passed g u (settings-passed (signal_part s) (signal-passed s judged.state)) judged.count judged.ring judged.long in
+    let (capture_ok, residual_ok) = powers-passed u judged.none in
+    record {
+      state = judged.state;
+      count = judged.count;
+      few = few-captures g lent.state;
+      lent = lent;
+      capture_ok = capture_ok;
+      residual_ok = residual_ok;
+    }
 
 module _ {s : ErleEstimator} {u : Update} (a : Accepted s u) where
   -- what is lent fits a part that passes

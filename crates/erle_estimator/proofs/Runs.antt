@@ -1,18 +1,25 @@
--- No call of a run from an accepted start is refused under 20.
-use mathlib.Core.Path.{◌≡◌, ◌∙◌}
+-- No call of a run from an accepted start is refused under 20, and every figure stays in range.
+use mathlib.Core.Path.{◌≡◌, refl, ◌∙◌, subst}
+use mathlib.Core.List.{List}
+use lib.Dec.{eqb}
 use mathlib.Core.Bool.{true}
 use Prim.Native.Nat.{ℕ}
 use native.Mathlib.Omega.{arith}
 use Rattle.aec3_common.specs.declared.settings.ErleSettings.{ErleSettings}
 use Rattle.aec3_common.specs.Refusal.{accepted, bad_state}
 use Rattle.aec3_common.proofs.Calls.{run-keeps}
-use Rattle.signal_dependent_erle_estimator.proofs.Runs.{update-not-20}
+use Rattle.aec3_common.proofs.Choices.{cond_has}
+use Rattle.aec3_common.proofs.Limits.{InBinary32}
+use Rattle.aec3_common.proofs.Values.{values-not-20}
+use Rattle.signal_dependent_erle_estimator.proofs.Judged.{refusal-not-20}
 use Rattle.erle_estimator.specs.declared.ErleEstimator.{ErleEstimator}
 use Rattle.erle_estimator.specs.declared.ErleAnswer.{ErleAnswer}
 use Rattle.erle_estimator.specs.Parts.{signal_settings}
-use Rattle.erle_estimator.specs.Erle.{state_ok, state_refusal, start_answer, reset_answer, update_answer}
+use Rattle.erle_estimator.specs.Erle.{Update, lent_values, state_ok, state_refusal, update_refusal, started_with, start_answer, after_reset, reset_answer, after_accepted, update_answer}
 use Rattle.erle_estimator.specs.Runs.{Call, update, reset, answer, run, NeverBadState}
-use Rattle.erle_estimator.proofs.Judged.{judged-is}
+use Rattle.erle_estimator.specs.Range.{AllInRange, FiguresInRange}
+use Rattle.erle_estimator.proofs.Range.{all-in-range}
+use Rattle.erle_estimator.proofs.Sections.{after-like, answer-like, reset-like}
 use Rattle.erle_estimator.proofs.Good.{Good, good-ok, start-good, update-good, reset-good}
 
 answer-good : (s : ErleEstimator) (c : Call) → Good s → Good (answer s c).state
@@ -21,21 +28,60 @@ answer-good s (update u) good = update-good s u good
 answer-good s (reset delay_change) good = reset-good s delay_change good
 
 answer-not-20 : (s : ErleEstimator) (c : Call) → state_ok s ≡ true → (answer s c).refused ≡ bad_state → ⊥
-unfolding answer update_answer reset_answer state_refusal
-answer-not-20 s (update u) ok e = update-not-20 (signal_settings s.settings) u u.capture u.residual (rw ok at (judged-is s u ∙ e))
+unfolding answer update_answer update_refusal reset_answer state_refusal
+answer-not-20 s (update u) ok e = refusal-not-20 (signal_settings s.settings) u _ _ (values-not-20 (lent_values u)) (rw ok at e)
 answer-not-20 s (reset delay_change) ok e = let never : ◌≡◌ {A = ℕ} 0 20 = rw ok at e in omega arith
 
+-- what a run from an accepted start keeps
+run-good :
+    (startup : ℕ) (g : ErleSettings) → InBinary32 g.min g.max_l g.max_h → (start_answer startup g).refused ≡ accepted
+    → (calls : List Call) → Good (run (start_answer startup g).state calls)
+unfolding run
+run-good startup g held e calls = run-keeps Good (λ t c. (answer t c).state) answer-good calls _ (start-good startup g held e)
+
 pub never-bad-state :
-    (startup : ℕ) (g : ErleSettings) → (start_answer startup g).refused ≡ accepted → NeverBadState (start_answer startup g).state
-unfolding NeverBadState run state_refusal
-never-bad-state startup g e calls =
-    let start = (start_answer startup g).state in
-    let s = run start calls in
-    let ok = good-ok s (run-keeps Good (λ t c. (answer t c).state) answer-good calls start (start-good startup g e)) in
+    (startup : ℕ) (g : ErleSettings) → InBinary32 g.min g.max_l g.max_h → (start_answer startup g).refused ≡ accepted
+    → NeverBadState (start_answer startup g).state
+unfolding NeverBadState state_refusal
+never-bad-state startup g held e calls =
+    let s = run (start_answer startup g).state calls in
+    let ok = good-ok s (run-good startup g held e calls) in
     record { calls = λ next. answer-not-20 s next ok; readings = rw ok }
 
--- what a start answers with by the definition promises it
+-- ---- figures
+
+start-settings : (startup : ℕ) (g : ErleSettings) → (start_answer startup g).refused ≡ accepted → (start_answer startup g).state.settings ≡ g
+unfolding start_answer started_with
+start-settings startup g e = rw e refl
+
+-- no call changes the settings
+pub update-settings : (s : ErleEstimator) (u : Update) → (after_accepted s u).settings ≡ s.settings
+update-settings s u = (after-like s u).0
+
+answer-settings : (s : ErleEstimator) (c : Call) → (answer s c).state.settings ≡ s.settings
+unfolding answer
+answer-settings s (update u) = (answer-like s u).0
+answer-settings s (reset delay_change) = (reset-like s delay_change).settings
+
+run-settings : (g : ErleSettings) (calls : List Call) (s : ErleEstimator) → s.settings ≡ g → (run s calls).settings ≡ g
+unfolding run
+run-settings g =
+    run-keeps (λ (s : ErleEstimator). s.settings ≡ g) (λ s c. (answer s c).state) (λ s c same. answer-settings s c ∙ same)
+
+pub figures-in-range :
+    (startup : ℕ) (g : ErleSettings) → InBinary32 g.min g.max_l g.max_h → (start_answer startup g).refused ≡ accepted
+    → FiguresInRange g (start_answer startup g).state
+unfolding FiguresInRange
+figures-in-range startup g held e calls =
+    let start = (start_answer startup g).state in
+    let s = run start calls in
+    subst (λ (asked : ErleSettings). AllInRange asked s) (run-settings g calls start (start-settings startup g e))
+    (all-in-range s (run-good startup g held e calls))
+
+-- ---- a start
+
+-- what is answered by the definition promises both
 pub start-promises :
-    (startup : ℕ) (g : ErleSettings) {r : ErleAnswer} → r ≡ start_answer startup g
-    → (r ≡ start_answer startup g) × (r.refused ≡ accepted → NeverBadState r.state)
-start-promises startup g same = (same, rw same (never-bad-state startup g))
+    (startup : ℕ) (g : ErleSettings) {r : ErleAnswer} → InBinary32 g.min g.max_l g.max_h → r ≡ start_answer startup g
+    → r.refused ≡ accepted → NeverBadState r.state × FiguresInRange g r.state
+start-promises startup g held same = rw same (λ e. (never-bad-state startup g held e, figures-in-range startup g held e))

@@ -1,19 +1,16 @@
--- The loop over the channels in an update of the whole.
-use mathlib.Core.Path.{◌≡◌, refl, sym, ◌∙◌}
+-- The loops over the channels in an update of the whole.
+use mathlib.Core.Path.{◌≡◌, refl, sym, ap, ◌∙◌}
 use mathlib.Core.Bool.{Bool, true, false, cond, ◌&&◌}
 use mathlib.Core.List.{List, []}
 use Prim.Native.Nat.{ℕ, ◌+◌, ◌≤◌, ◌<◌}
 use native.Mathlib.Omega.{arith}
-use borrow.Author.Tests.{ltb-true}
 use lib.Dec.{ltb}
 use lib.Ieee.{Float}
 use lib.ListN.{length, get_or, set}
 use Rattle.aec3_common.specs.Lists.{tab}
-use Rattle.aec3_common.specs.Settings.{headroom_blocks}
 use Rattle.aec3_common.specs.Spectra.{part, sum}
-use Rattle.aec3_common.proofs.Choices.{cond-by, cond_same}
-use Rattle.aec3_common.proofs.Tables.{Stored, get_or-tab-first, tab-is, tab-same, stored-none, stored_more, stored-firsts}
-use Rattle.section_echoes.specs.Steps.{all_active}
+use Rattle.aec3_common.proofs.Choices.{cond-by}
+use Rattle.aec3_common.proofs.Tables.{Stored, stored-none, stored_more, stored-firsts}
 use Rattle.correction_factors.specs.Factors.{subband_sums}
 use Rattle.subband_erle_estimator.specs.declared.settings.SubbandSettings.{SubbandSettings}
 use Rattle.subband_erle_estimator.specs.declared.channel.SubbandChannel.{SubbandChannel}
@@ -21,11 +18,9 @@ use Rattle.subband_erle_estimator.specs.declared.SubbandErleEstimator.{SubbandEr
 use Rattle.subband_erle_estimator.specs.Channel.{channel_after as Subband·channel_after}
 use Rattle.subband_erle_estimator.specs.Subband.{no_channel as Subband·no_channel, channel_at as Subband·channel_at, updated as Subband·updated}
 use Rattle.subband_erle_estimator.proofs.Updates.{channel_of as Subband·channel_of}
-use Rattle.signal_dependent_erle_estimator.specs.declared.settings.SignalDependentSettings.{SignalDependentSettings}
 use Rattle.signal_dependent_erle_estimator.specs.declared.channel.SignalDependentChannel.{SignalDependentChannel}
-use Rattle.signal_dependent_erle_estimator.specs.Channel.{Lent, channel_after as SignalDependent·channel_after}
-use Rattle.signal_dependent_erle_estimator.specs.SignalDependent.{no_channel as SignalDependent·no_channel, channel_at as SignalDependent·channel_at, lent_to, updated as SignalDependent·updated, after_accepted as SignalDependent·after_accepted}
-use Rattle.signal_dependent_erle_estimator.proofs.Updates.{active-at}
+use Rattle.signal_dependent_erle_estimator.specs.Channel.{channel_after as SignalDependent·channel_after}
+use Rattle.signal_dependent_erle_estimator.specs.SignalDependent.{no_channel as SignalDependent·no_channel, channel_at as SignalDependent·channel_at, lent_to, updated as SignalDependent·updated, after_block as SignalDependent·after_block}
 use Rattle.fullband_channel.specs.declared.channel.FullBandChannel.{FullBandChannel}
 use Rattle.fullband_channel.specs.Channel.{with_point, one_block_less}
 use Rattle.fullband_erle_estimator.specs.FullBand.{min_log2, no_channel as FullBand·no_channel, channel_at as FullBand·channel_at, updated as FullBand·updated}
@@ -33,7 +28,10 @@ use Rattle.fullband_erle_estimator.specs.Steps.{loud_for}
 use Rattle.fullband_erle_estimator.proofs.Updates.{channel_of as FullBand·channel_of, heard-channel, quiet-channel as FullBand·quiet-channel}
 use Rattle.erle_estimator.specs.declared.ErleEstimator.{ErleEstimator}
 use Rattle.erle_estimator.specs.Parts.{subband_settings, signal_settings, fullband_settings, subband_part, signal_part, fullband_part, with_records}
-use Rattle.erle_estimator.specs.Erle.{Update, updated}
+use Rattle.fullband_erle_estimator.specs.declared.FullBandErleEstimator.{FullBandErleEstimator}
+use Rattle.signal_dependent_erle_estimator.specs.declared.SignalDependentErleEstimator.{SignalDependentErleEstimator}
+use Rattle.erle_estimator.specs.Erle.{Powers, updated}
+use Rattle.erle_estimator.specs.Steps.{moved_by_powers, moved_by_sections}
 
 module _ (s : ErleEstimator) (converged : List Bool) (x y e : List Float) where
   -- the subband record of a channel after the update, and the fullband one
@@ -43,59 +41,27 @@ module _ (s : ErleEstimator) (converged : List Bool) (x y e : List Float) where
   abbrev pub fullband_of : ℕ → FullBandChannel
   fullband_of = FullBand·channel_of (fullband_part s) converged x y e
 
-  -- what its signal-dependent record is lent: the streams that the subband record has then
-  abbrev pub lent_of : ℕ → Lent
-  lent_of ch =
-      record {
-        converged = get_or converged ch false;
-        capture = part y ch;
-        residual = part e ch;
-        average = (subband_of ch).erle;
-        average_compensated = (subband_of ch).erle_onset_compensated;
-      }
-
-  -- the signal-dependent record after the update, by the active sections and the render sums that were found
-  abbrev pub signal_of : List (List ℕ) → List Float → ℕ → SignalDependentChannel
-  signal_of active renders ch =
-      cond (ltb 1 s.settings.num_sections)
-      (SignalDependent·channel_after (signal_settings s.settings) (get_or active ch []) renders (lent_of ch) (SignalDependent·channel_at (signal_part s) ch))
-      (SignalDependent·channel_at (signal_part s) ch)
-
-  -- What the loop has done at ch: the records before it are updated, in each part; the rest of the state stands.
-  pub record Updating (active : List (List ℕ)) (renders : List Float) (r : ErleEstimator) (ch : ℕ) : Type 0 where
-    rest : r ≡ with_records s s.blocks_since_reset r.subband r.signal_dependent r.fullband
+  -- What the loop over subband and fullband records has done at ch: the records before it are updated; the rest of the state stands.
+  pub record MovingByPowers (r : ErleEstimator) (ch : ℕ) : Type 0 where
+    rest : r ≡ with_records s s.blocks_since_reset r.subband s.signal_dependent r.fullband
     pub subband : Stored 4 Subband·no_channel 0 s.settings.num_capture_channels subband_of s.subband r.subband ch
-    pub signal :
-        Stored 4 SignalDependent·no_channel 0 s.settings.num_capture_channels (signal_of active renders) s.signal_dependent r.signal_dependent ch
     pub fullband : Stored 4 FullBand·no_channel 0 s.settings.num_capture_channels fullband_of s.fullband r.fullband ch
 
-  -- nothing yet
-  pub updating-none :
-      (active : List (List ℕ)) (renders : List Float)
-      → (length s.subband ≡ 4) × (length s.signal_dependent ≡ 4) × (length s.fullband ≡ 4) → Updating active renders s 0
-  updating-none active renders (four, four-signal, four-fullband) =
-      record {
-        rest = refl;
-        subband = stored-none _ _ _ _ _ (omega arith) four;
-        signal = stored-none _ _ _ _ _ (omega arith) four-signal;
-        fullband = stored-none _ _ _ _ _ (omega arith) four-fullband;
-      }
+  pub powers-none : length s.subband ≡ 4 → length s.fullband ≡ 4 → MovingByPowers s 0
+  powers-none four four-fullband =
+      record { rest = refl; subband = stored-none _ _ _ _ _ (omega arith) four; fullband = stored-none _ _ _ _ _ (omega arith) four-fullband }
 
   -- one channel more
-  pub updating-more :
-      {active : List (List ℕ)} {renders : List Float} {r : ErleEstimator} {ch : ℕ} {c : SubbandChannel} {d : SignalDependentChannel} {f : FullBandChannel}
-      → Updating active renders r ch → ch < s.settings.num_capture_channels → s.settings.num_capture_channels ≤ 4
-      → c ≡ subband_of ch → d ≡ signal_of active renders ch → f ≡ fullband_of ch
-      → Updating active renders
-      (with_records r r.blocks_since_reset (set r.subband ch c) (set r.signal_dependent ch d) (set r.fullband ch f))
-      (ch + 1)
-  updating-more {r = r} {ch = ch} {c = c} {d = d} {f = f} t h few subband signal fullband =
+  pub powers-more :
+      {r : ErleEstimator} {ch : ℕ} {c : SubbandChannel} {f : FullBandChannel}
+      → MovingByPowers r ch → ch < s.settings.num_capture_channels → s.settings.num_capture_channels ≤ 4 → c ≡ subband_of ch → f ≡ fullband_of ch
+      → MovingByPowers (with_records r r.blocks_since_reset (set r.subband ch c) r.signal_dependent (set r.fullband ch f)) (ch + 1)
+  powers-more {r = r} {ch = ch} {c = c} {f = f} t h few subband fullband =
       record {
         rest =
             λ i. with_records (t.rest i) (t.rest i).blocks_since_reset
-            (set r.subband ch c) (set r.signal_dependent ch d) (set r.fullband ch f);
+            (set r.subband ch c) (t.rest i).signal_dependent (set r.fullband ch f);
         subband = stored_more c t.subband h few subband;
-        signal = stored_more d t.signal h few signal;
         fullband = stored_more f t.fullband h few fullband;
       }
 
@@ -108,35 +74,6 @@ module _ (s : ErleEstimator) (converged : List Bool) (x y e : List Float) where
   subband-is ch given own-capture own-residual held =
       λ i. Subband·channel_after (given i)
       (record { converged = get_or converged ch false; render = x; capture = own-capture i; residual = own-residual i })
-      (held i)
-
-  -- the signal-dependent record, as the code has it
-  pub signal-is :
-      (active : List (List ℕ)) (renders : List Float) (ch : ℕ) {g : SignalDependentSettings} {capture residual : List Float} {subband : SubbandChannel} {c : SignalDependentChannel}
-      → g ≡ signal_settings s.settings → capture ≡ part y ch → residual ≡ part e ch → subband ≡ subband_of ch → c ≡ SignalDependent·channel_at (signal_part s) ch
-      → cond (ltb 1 g.num_sections)
-      (SignalDependent·channel_after g (get_or active ch []) renders
-      (record {
-        converged = get_or converged ch false;
-        capture = capture;
-        residual = residual;
-        average = subband.erle;
-        average_compensated = subband.erle_onset_compensated;
-      })
-      c)
-      c
-      ≡ signal_of active renders ch
-  signal-is active renders ch given own-capture own-residual moved held =
-      λ i. cond (ltb 1 (given i).num_sections)
-      (SignalDependent·channel_after (given i) (get_or active ch []) renders
-      (record {
-        converged = get_or converged ch false;
-        capture = own-capture i;
-        residual = own-residual i;
-        average = (moved i).erle;
-        average_compensated = (moved i).erle_onset_compensated;
-      })
-      (held i))
       (held i)
 
   -- the fullband record, as the code has it: heard where the channel is converged and the block is loud
@@ -154,93 +91,87 @@ module _ (s : ErleEstimator) (converged : List Bool) (x y e : List Float) where
 
 -- ---- the loop is over
 
-module _ (s : ErleEstimator) (u : Update) (few : s.settings.num_capture_channels ≤ 4) where
-  -- the subband part after the update
-  abbrev moved : SubbandErleEstimator
-  moved = Subband·updated (subband_part s) u.converged u.render u.capture u.residual
+pub powers-all :
+    (s : ErleEstimator) (p : Powers) {r : ErleEstimator} {ch : ℕ}
+    → MovingByPowers s p.converged p.render p.capture p.residual r ch → s.settings.num_capture_channels ≤ ch → r ≡ moved_by_powers s p
+unfolding moved_by_powers Subband·updated Subband·channel_of FullBand·updated FullBand·channel_of
+powers-all s p t over =
+    t.rest
+    ∙ (λ i. with_records s s.blocks_since_reset (stored-firsts t.subband over i) s.signal_dependent (stored-firsts t.fullband over i))
 
+-- ---- the signal-dependent records
+
+module _ (s : ErleEstimator) (p : Powers) where
   abbrev own : ℕ → SubbandChannel
-  own = subband_of s u.converged u.render u.capture u.residual
+  own = Subband·channel_at (subband_part s)
 
-  moved_at : (ch : ℕ) → ch < s.settings.num_capture_channels → Subband·channel_at moved ch ≡ own ch
-  unfolding Subband·updated Subband·channel_of
-  moved_at ch h = get_or-tab-first 4 s.settings.num_capture_channels _ (Subband·channel_at (subband_part s)) ch Subband·no_channel few h
+  -- a record after the update, by the active sections and the render sums that were found, and the subband streams that stand
+  abbrev pub signal_of : List (List ℕ) → List Float → ℕ → SignalDependentChannel
+  signal_of active renders ch =
+      SignalDependent·channel_after (signal_settings s.settings) (get_or active ch []) renders
+      (lent_to p (λ j. (own j).erle) (λ j. (own j).erle_onset_compensated) ch)
+      (SignalDependent·channel_at (signal_part s) ch)
 
-  abbrev plain : ℕ → List Float
-  plain ch = (Subband·channel_at moved ch).erle
+  -- what the loop over them has done at ch
+  pub record MovingBySections (active : List (List ℕ)) (renders : List Float) (r : ErleEstimator) (ch : ℕ) : Type 0 where
+    rest : r ≡ with_records s s.blocks_since_reset s.subband r.signal_dependent s.fullband
+    pub signal :
+        Stored 4 SignalDependent·no_channel 0 s.settings.num_capture_channels (signal_of active renders) s.signal_dependent r.signal_dependent ch
 
-  abbrev compensated : ℕ → List Float
-  compensated ch = (Subband·channel_at moved ch).erle_onset_compensated
+  pub sections-none : (active : List (List ℕ)) (renders : List Float) → length s.signal_dependent ≡ 4 → MovingBySections active renders s 0
+  sections-none active renders four = record { rest = refl; signal = stored-none _ _ _ _ _ (omega arith) four }
 
-  -- a channel is lent its own streams
-  lent_is : (ch : ℕ) → ch < s.settings.num_capture_channels → lent_of s u.converged u.render u.capture u.residual ch ≡ lent_to u plain compensated ch
-  lent_is ch h =
-      let same = sym (moved_at ch h) in
-      λ i. record {
-        converged = get_or u.converged ch false;
-        capture = part u.capture ch;
-        residual = part u.residual ch;
-        average = (same i).erle;
-        average_compensated = (same i).erle_onset_compensated;
-      }
+  module _ {active : List (List ℕ)} {renders : List Float} {r : ErleEstimator} {ch : ℕ} (t : MovingBySections active renders r ch) where
+    -- its subband records are those that it began with
+    pub sections-own : r.subband ≡ s.subband
+    sections-own = ap (λ (z : ErleEstimator). z.subband) t.rest
 
-  module _
-      {active : List (List ℕ)} {renders : List Float} {r : ErleEstimator} {ch : ℕ}
-      (t : Updating s u.converged u.render u.capture u.residual active renders r ch)
-      (over : s.settings.num_capture_channels ≤ ch)
-    where
-      subband-all : r.subband ≡ moved.channels
-      unfolding Subband·updated Subband·channel_of
-      subband-all = stored-firsts t.subband over
+    pub sections-more :
+        {d : SignalDependentChannel}
+        → ch < s.settings.num_capture_channels → s.settings.num_capture_channels ≤ 4 → d ≡ signal_of active renders ch
+        → MovingBySections active renders (with_records r r.blocks_since_reset r.subband (set r.signal_dependent ch d) r.fullband) (ch + 1)
+    sections-more {d} h few signal =
+        record {
+          rest =
+              λ i. with_records (t.rest i) (t.rest i).blocks_since_reset (t.rest i).subband (set r.signal_dependent ch d) (t.rest i).fullband;
+          signal = stored_more d t.signal h few signal;
+        }
 
-      fullband-all : r.fullband ≡ (FullBand·updated (fullband_part s) u.converged u.render u.capture u.residual).channels
-      unfolding FullBand·updated FullBand·channel_of
-      fullband-all = stored-firsts t.fullband over
+    pub sections-all :
+        s.settings.num_capture_channels ≤ ch → renders ≡ subband_sums p.render → r ≡ moved_by_sections s p (λ j. get_or active j [])
+    unfolding moved_by_sections SignalDependent·updated
+    sections-all over summed =
+        t.rest
+        ∙ (λ i. with_records s s.blocks_since_reset s.subband
+        ((stored-firsts t.signal over
+        ∙ ap
+        (λ (sums : List Float).
+        tab 4 (λ j. cond (ltb j s.settings.num_capture_channels) (signal_of active sums j) (SignalDependent·channel_at (signal_part s) j))) summed) i)
+        s.fullband)
 
-      module _
-          (counted : length u.counts ≡ s.settings.num_capture_channels) (four : length s.signal_dependent ≡ 4)
-          (found :
-          1 < s.settings.num_sections
-          → active
-          ≡ all_active u.ring u.spectra (headroom_blocks s.settings.delay_headroom_samples) s.section_boundaries_blocks s.settings.num_sections u.counts u.responses)
-          (summed : 1 < s.settings.num_sections → renders ≡ subband_sums u.render)
-        where
-          signal-all : r.signal_dependent ≡ (SignalDependent·after_accepted (signal_part s) u plain compensated).channels
-          unfolding SignalDependent·after_accepted SignalDependent·updated
-          signal-all = stored-firsts t.signal over ∙ go (ltb 1 s.settings.num_sections) refl
-            where
-              held : ℕ → SignalDependentChannel
-              held = SignalDependent·channel_at (signal_part s)
+-- ---- both
 
-              either_way : (b : Bool) (c : SignalDependentChannel) → c ≡ cond b c c
-              either_way true c = refl
-              either_way false c = refl
+-- a block after the startup phase moves the records by its powers, and then, with two sections or more, by its sections
+pub updated-is :
+    (s : ErleEstimator) (p : Powers) (active : ℕ → List ℕ)
+    → cond (ltb 1 s.settings.num_sections) (moved_by_sections (moved_by_powers s p) p active) (moved_by_powers s p) ≡ updated s p active
+unfolding updated moved_by_powers moved_by_sections SignalDependent·after_block
+updated-is s p active = go (ltb 1 s.settings.num_sections)
+  where
+    subband : SubbandErleEstimator
+    subband = Subband·updated (subband_part s) p.converged p.render p.capture p.residual
 
-              go :
-                  (b : Bool) → ltb 1 s.settings.num_sections ≡ b
-                  → tab 4
-                  (λ j.
-                  cond (ltb j s.settings.num_capture_channels)
-                  (cond b
-                  (SignalDependent·channel_after (signal_settings s.settings) (get_or active j []) renders (lent_of s u.converged u.render u.capture u.residual j) (held j))
-                  (held j))
-                  (held j))
-                  ≡ (cond b (SignalDependent·updated (signal_part s) u plain compensated) (signal_part s)).channels
-              go true many =
-                  let sections = ltb-true 1 s.settings.num_sections many in
-                  tab-same 4 SignalDependent·no_channel _ _
-                  (λ j b.
-                  cond_same (ltb j s.settings.num_capture_channels) (held j)
-                  (λ q.
-                  let h = ltb-true j s.settings.num_capture_channels q in
-                  rw (active-at (signal_part s) u j (found sections) (omega arith) (omega arith), summed sections, lent_is j h)))
-              go false many =
-                  sym
-                  (tab-is 4 SignalDependent·no_channel _ s.signal_dependent four
-                  (λ j b. either_way (ltb j s.settings.num_capture_channels) (held j)))
+    fullband : FullBandErleEstimator
+    fullband = FullBand·updated (fullband_part s) p.converged p.render p.capture p.residual
 
-          -- all channels
-          pub updating-all : r ≡ updated s u
-          unfolding updated
-          updating-all =
-              t.rest ∙ (λ i. with_records s s.blocks_since_reset (subband-all i) (signal-all i) (fullband-all i))
+    signal : SignalDependentErleEstimator
+    signal = SignalDependent·updated (signal_part s) p active (λ ch. (Subband·channel_at subband ch).erle) (λ ch. (Subband·channel_at subband ch).erle_onset_compensated)
+
+    go :
+        (many : Bool)
+        → cond many
+        (with_records s s.blocks_since_reset subband.channels signal.channels fullband.channels)
+        (with_records s s.blocks_since_reset subband.channels s.signal_dependent fullband.channels)
+        ≡ with_records s s.blocks_since_reset subband.channels (cond many signal (signal_part s)).channels fullband.channels
+    go true = refl
+    go false = refl

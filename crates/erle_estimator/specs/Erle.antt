@@ -2,6 +2,7 @@
 use Rattle.std.specs.Prelude.{Bool, true, false, cond, ◌&&◌, List, ℕ, ltb, eqb, Float}
 use Rattle.aec3_common.specs.declared.settings.ErleSettings.{ErleSettings}
 use Rattle.aec3_common.specs.Binary32.{zero32}
+use Rattle.aec3_common.specs.Calls.{value_refusal}
 use Rattle.aec3_common.specs.Counts.{one_more}
 use Rattle.aec3_common.specs.Refusal.{unless, accepted, bad_state}
 use Rattle.aec3_common.specs.Settings.{settings_refusal}
@@ -9,7 +10,7 @@ use Rattle.aec3_common.specs.Streams.{erle_of}
 use Rattle.subband_erle_estimator.specs.declared.channel.SubbandChannel.{SubbandChannel}
 use Rattle.subband_erle_estimator.specs.Subband.{channel_at as Subband·channel_at, state_ok as Subband·state_ok, started as Subband·started, updated as Subband·updated}
 use Rattle.signal_dependent_erle_estimator.specs.declared.channel.SignalDependentChannel.{SignalDependentChannel}
-use Rattle.signal_dependent_erle_estimator.specs.SignalDependent.{state_ok as SignalDependent·state_ok, refusal_by, boundaries_of, started as SignalDependent·started, after_accepted as SignalDependent·after_accepted}
+use Rattle.signal_dependent_erle_estimator.specs.SignalDependent.{channel_at as SignalDependent·channel_at, state_ok as SignalDependent·state_ok, refusal_by, boundaries_of, started as SignalDependent·started, active_of, after_block as SignalDependent·after_block}
 use Rattle.fullband_channel.specs.declared.instantaneous.OptionalNumber.TheVariants.{Absent}
 use Rattle.fullband_erle_estimator.specs.declared.FullBandFigure.{FullBandFigure}
 use Rattle.fullband_erle_estimator.specs.declared.QualityAnswer.{QualityAnswer}
@@ -18,9 +19,9 @@ use Rattle.erle_estimator.specs.declared.ErleEstimator.{ErleEstimator}
 use Rattle.erle_estimator.specs.declared.ErleAnswer.{ErleAnswer}
 use Rattle.erle_estimator.specs.declared.streams.ErleStreams.{ErleStreams}
 use Rattle.erle_estimator.specs.Parts.{subband_settings, signal_settings, fullband_settings, subband_part, signal_part, fullband_part, with_records}
--- what an update is lent, and numbers 5 and 6 of it
-pub use Rattle.signal_dependent_erle_estimator.specs.SignalDependent.{Update}
-unfoldable pub use Rattle.signal_dependent_erle_estimator.specs.SignalDependent.{lent_lengths_ok, lent_values_ok}
+-- what an update is lent, number 5 of it, and its values
+pub use Rattle.signal_dependent_erle_estimator.specs.SignalDependent.{Update, Echoes, echoes_of, Powers, powers_of}
+unfoldable pub use Rattle.signal_dependent_erle_estimator.specs.SignalDependent.{lent_lengths_ok, lent_values}
 
 -- ---- calls turned away
 
@@ -35,7 +36,7 @@ state_refusal s = unless (state_ok s) bad_state accepted
 -- the first of 20, 21, 2, 4, 9, 5 and 6, or 0
 unfoldable pub update_refusal : ErleEstimator → Update → ℕ
 update_refusal s u =
-    refusal_by (state_ok s) (signal_settings s.settings) u (lent_lengths_ok s.settings.filter_length_blocks u) (lent_values_ok u)
+    refusal_by (state_ok s) (signal_settings s.settings) u (lent_lengths_ok s.settings.filter_length_blocks u) (value_refusal (lent_values u))
 
 -- ---- start, reset, update
 
@@ -92,22 +93,30 @@ reset_answer s delay_change =
 unfoldable pub counted : ErleEstimator → ErleEstimator
 counted s = with_records s (one_more s.blocks_since_reset) s.subband s.signal_dependent s.fullband
 
--- The three parts in the Rust's order: the subband part; the signal-dependent part, which with one section stays as it is and otherwise
--- is lent each channel's subband streams after this update; the fullband part. (With onset detection off the Rust lends the plain stream twice; the
--- part then reads no compensated one.) The count is not touched here.
-unfoldable pub updated : ErleEstimator → Update → ErleEstimator
-updated s u =
-    let subband = Subband·updated (subband_part s) u.converged u.render u.capture u.residual in
+-- The three parts in the Rust's order: the subband part; the signal-dependent part, by the active sections of each channel, which with one
+-- section stays as it is and otherwise is lent each channel's subband streams after this update; the fullband part. (With onset detection off the
+-- Rust lends the plain stream twice; the part then reads no compensated one.) The count is not touched here.
+unfoldable pub updated : ErleEstimator → Powers → (active : ℕ → List ℕ) → ErleEstimator
+updated s p active =
+    let subband = Subband·updated (subband_part s) p.converged p.render p.capture p.residual in
     let own = Subband·channel_at subband in
-    let signal = SignalDependent·after_accepted (signal_part s) u (λ ch. (own ch).erle) (λ ch. (own ch).erle_onset_compensated) in
-    let fullband = FullBand·updated (fullband_part s) u.converged u.render u.capture u.residual in
+    let signal = SignalDependent·after_block (signal_part s) p active (λ ch. (own ch).erle) (λ ch. (own ch).erle_onset_compensated) in
+    let fullband = FullBand·updated (fullband_part s) p.converged p.render p.capture p.residual in
     with_records s s.blocks_since_reset subband.channels signal.channels fullband.channels
 
--- Each accepted update counts one block first; if the count is then below the startup count, nothing else happens.
-unfoldable pub after_accepted : ErleEstimator → Update → ErleEstimator
-after_accepted s u =
+-- The inner update, by active sections: one block is counted first; if the count is then below the startup count, nothing else happens.
+unfoldable pub after_block : ErleEstimator → Powers → (active : ℕ → List ℕ) → ErleEstimator
+after_block s p active =
     let c = counted s in
-    cond (ltb c.blocks_since_reset c.startup_phase_length_blocks) c (updated c u)
+    cond (ltb c.blocks_since_reset c.startup_phase_length_blocks) c (updated c p active)
+
+-- the active sections that an update finds; beside being judged, ring, spectra, counts and responses do nothing else
+abbrev pub active_in : ErleEstimator → Update → ℕ → List ℕ
+active_in s u = active_of (signal_part s) u
+
+-- An accepted update is the inner update by the active sections that it finds.
+unfoldable pub after_accepted : ErleEstimator → Update → ErleEstimator
+after_accepted s u = after_block s (powers_of u) (active_in s u)
 
 -- The answer: the next state and 0, or the state as it was and the refusal.
 unfoldable pub update_answer : ErleEstimator → Update → ErleAnswer
@@ -139,6 +148,10 @@ streams_shown g subband signal =
       unbounded = cond (sectioned g) signal.erle subband.erle_unbounded;
       onsets = subband.erle_onsets;
     }
+
+-- what a state shows of a channel
+abbrev pub streams_of : ErleEstimator → ℕ → ErleStreams
+streams_of s ch = streams_shown s.settings (Subband·channel_at (subband_part s) ch) (SignalDependent·channel_at (signal_part s) ch)
 
 unfoldable pub log2_answer : ErleEstimator → FullBandFigure
 log2_answer s = figure_case (state_refusal s) (fullband_log2 (fullband_part s))

@@ -1,4 +1,6 @@
 pub mod Erle
 pub mod Parts
+pub mod Range
 pub mod Runs
+pub mod Sections
 pub mod Steps

@@ -6,10 +6,12 @@ mod moves;
 mod parts;
 mod streams;
 
-ghost use Rattle.std.specs.Prelude.{◌≡◌};
+ghost use Rattle.std.specs.Prelude.{◌≡◌, ◌<◌, [], get_or};
 ghost use Rattle.aec3_common.specs.Refusal.{accepted};
 ghost use Rattle.erle_estimator.specs.Parts.{fullband_part};
-ghost use Rattle.erle_estimator.specs.Erle.{Update, state_ok, started_with, start_answer, blocks_kept, after_reset, reset_answer, update_answer, log2_answer, decibel_answer, quality_answer};
+ghost use Rattle.erle_estimator.specs.Erle.{Update, state_ok, started_with, start_answer, blocks_kept, after_reset, reset_answer, after_block, update_answer, log2_answer, decibel_answer, quality_answer};
+ghost use Rattle.erle_estimator.specs.Range.{FiguresInRange};
+ghost use Rattle.erle_estimator.specs.Steps.{BlockFits, PointsFit, SectionsFit, moved_by_powers, moved_by_sections};
 ghost use Rattle.erle_estimator.specs.Runs.{NeverBadState};
 
 use aec3_common::counts::one_more;
@@ -17,16 +19,16 @@ use aec3_common::refusal::{ACCEPTED, BAD_STATE};
 pub use aec3_common::settings::ErleSettings;
 use aec3_common::spectra::part;
 pub use aec3_common::streams::erle;
+use correction_factors::subband_sums;
 use fullband_erle_estimator::{FullBandChannel, FullBandErleEstimator, is_loud};
 pub use fullband_erle_estimator::{FullBandFigure, OptionalNumber, QualityAnswer};
 use judge::{judged_channels, settings_pass};
-use moves::{active_sections, render_subbands, signal_channel};
-pub use moves::{fullband_channel, subband_channel};
-pub use parts::{fullband_settings, subband_settings};
-use parts::{refused_settings, signal_settings};
+use moves::{fullband_channel, move_subband};
+use parts::signal_settings;
+pub use parts::{fullband_settings, refused_settings, subband_settings};
 pub use section_echoes::RenderRing;
 use signal_dependent_erle_estimator::judge::update_refusal;
-use signal_dependent_erle_estimator::{SignalDependentChannel, boundaries_of};
+use signal_dependent_erle_estimator::{SignalDependentChannel, active_sections, boundaries_of};
 pub use streams::{ErleStreams, erle_streams};
 use subband_erle_estimator::SubbandChannel;
 
@@ -84,10 +86,11 @@ fn blocks_kept(blocks: u32, delay_change: bool) -> u32
 
 impl ErleEstimator {
     // A start. 1, 2 and 3 are turned away, with a state that update, reset and the fullband readers turn away. After an accepted start
-    // no later call is turned away under 20.
+    // no later call is turned away under 20; every band's figures stay in range, and the fullband figures are numbers.
     pub fn new(startup_phase_length_blocks: u32, settings: ErleSettings) -> ErleAnswer
         ensures value { result ≡ start_answer startup_phase_length_blocks settings }
         ensures never_bad_state { result.refused ≡ accepted → NeverBadState result.state }
+        ensures figures_in_range { result.refused ≡ accepted → FiguresInRange settings result.state }
     {
         let refused = settings.refusal();
         if refused == ACCEPTED {
@@ -99,24 +102,21 @@ impl ErleEstimator {
         }
     }
 
-    // Whether number 20 lets the state pass.
-    pub fn ok(self) -> bool
-        ensures { result ≡ state_ok self }
+    // Whether number 20 lets the state pass. The state is lent, since one that is handed over by value is copied whole.
+    pub fn ok(&self) -> bool
+        ensures { result ≡ state_ok self.now }
     {
         let settings = self.settings;
-        let held = self.section_boundaries_blocks;
         let mut subband_ok = true;
         let mut signal_ok = true;
         let mut fullband_ok = true;
         for ch in 0..judged_channels(settings) {
-            let subband = self.subband[ch];
-            let signal = self.signal_dependent[ch];
-            let fullband = self.fullband[ch];
-            subband_ok = subband_ok & subband.ok();
-            signal_ok = signal_ok & signal.ok(settings.num_sections as u32);
-            fullband_ok = fullband_ok & fullband.ok();
+            subband_ok = subband_ok & self.subband[ch].ok();
+            signal_ok = signal_ok & self.signal_dependent[ch].ok(settings.num_sections as u32);
+            fullband_ok = fullband_ok & self.fullband[ch].ok();
         }
-        settings_pass(settings, &held) & (subband_ok & signal_ok & fullband_ok)
+        settings_pass(settings, &self.section_boundaries_blocks)
+            & (subband_ok & signal_ok & fullband_ok)
     }
 
     // Every part as after a start; the count is cleared only if the delay changed. It judges nothing.
@@ -146,9 +146,107 @@ impl ErleEstimator {
         }
     }
 
+    // The subband and the fullband records of every channel, one block later.
+    fn move_by_powers(
+        &mut self,
+        num_capture_channels: usize,
+        x2: &[f32],
+        y2: &[f32],
+        e2: &[f32],
+        converged_filters: &[bool],
+    )
+        requires fits { BlockFits self.old num_capture_channels (record { render = x2.now; capture = y2.now; residual = e2.now; converged = converged_filters.now }) }
+        requires held { PointsFit self.old num_capture_channels }
+        ensures { self.new ≡ moved_by_powers self.old (record { render = x2.now; capture = y2.now; residual = e2.now; converged = converged_filters.now }) }
+    {
+        let subband_part = subband_settings(self.settings);
+        let fullband_part = fullband_settings(self.settings);
+        let loud = is_loud(converged_filters, x2);
+        let min_erle_log2 = fullband_part.min_erle_log2();
+        for ch in 0..num_capture_channels {
+            let converged = converged_filters[ch];
+            let own_y2 = part(y2, ch);
+            let own_e2 = part(e2, ch);
+            move_subband(
+                &mut self.subband[ch],
+                subband_part,
+                converged,
+                x2,
+                own_y2,
+                own_e2,
+            );
+            let c = self.fullband[ch];
+            self.fullband[ch] = fullband_channel(
+                c,
+                min_erle_log2,
+                loud & converged,
+                own_y2,
+                own_e2,
+            );
+        }
+    }
+
+    // The signal-dependent records, by the active sections and the subband streams as they are now.
+    fn move_by_sections(
+        &mut self,
+        num_capture_channels: usize,
+        active: &[[u32; 65]; 4],
+        x2: &[f32],
+        y2: &[f32],
+        e2: &[f32],
+        converged_filters: &[bool],
+    )
+        requires fits { BlockFits self.old num_capture_channels (record { render = x2.now; capture = y2.now; residual = e2.now; converged = converged_filters.now }) }
+        requires sections { SectionsFit self.old num_capture_channels (λ ch. get_or active.now ch []) }
+        ensures { self.new ≡ moved_by_sections self.old (record { render = x2.now; capture = y2.now; residual = e2.now; converged = converged_filters.now }) (λ ch. get_or active.now ch []) }
+    {
+        let signal_part = signal_settings(self.settings);
+        let x2_subbands = subband_sums(x2);
+        for ch in 0..num_capture_channels {
+            let subband = self.subband[ch];
+            let c = self.signal_dependent[ch];
+            self.signal_dependent[ch] = c.update(
+                signal_part,
+                &active[ch],
+                &x2_subbands,
+                converged_filters[ch],
+                part(y2, ch),
+                part(e2, ch),
+                &subband.erle,
+                &subband.erle_onset_compensated,
+            );
+        }
+    }
+
+    // The inner update: a block that was judged, by the active sections of each channel. It counts one block; below the startup count nothing else
+    // happens. With one section no active section is looked at.
+    pub fn advance(
+        &mut self,
+        num_capture_channels: usize,
+        active: &[[u32; 65]; 4],
+        x2: &[f32],
+        y2: &[f32],
+        e2: &[f32],
+        converged_filters: &[bool],
+    )
+        requires fits { BlockFits self.old num_capture_channels (record { render = x2.now; capture = y2.now; residual = e2.now; converged = converged_filters.now }) }
+        requires held { PointsFit self.old num_capture_channels }
+        requires sections { 1 < self.old.settings.num_sections → SectionsFit self.old num_capture_channels (λ ch. get_or active.now ch []) }
+        ensures { self.new ≡ after_block self.old (record { render = x2.now; capture = y2.now; residual = e2.now; converged = converged_filters.now }) (λ ch. get_or active.now ch []) }
+    {
+        let blocks = one_more(self.blocks_since_reset);
+        self.blocks_since_reset = blocks;
+        if self.startup_phase_length_blocks <= blocks {
+            self.move_by_powers(num_capture_channels, x2, y2, e2, converged_filters);
+            if self.settings.num_sections > 1 {
+                self.move_by_sections(num_capture_channels, active, x2, y2, e2, converged_filters);
+            }
+        }
+    }
+
     // One block: the ring and its spectra, the number of response blocks of each channel and the responses, render, captures and
-    // residuals, and the flags. 20, 21, 2, 4, 9, 5 and 6 are turned away, in startup too; a block that is turned away is not counted.
-    // All of it stands in one function, the judging of the records once more too: handing the state to another one copies all of it.
+    // residuals, and the flags. 20, 21, 2, 4, 9, 5 and 6 are turned away, in startup too; a block that is turned away is not counted. The active
+    // sections are found, and then the inner update goes by them.
     pub fn update(
         mut self,
         num_capture_channels: usize,
@@ -163,25 +261,10 @@ impl ErleEstimator {
     ) -> ErleAnswer
         ensures { result ≡ update_answer self (record { channels = num_capture_channels; ring = ring; spectra = spectra.now; counts = response_blocks.now; responses = responses.now; render = x2.now; capture = y2.now; residual = e2.now; converged = converged_filters.now }) }
     {
-        let settings = self.settings;
-        let held = self.section_boundaries_blocks;
-        let signal_part = signal_settings(settings);
-        let mut subband_ok = true;
-        let mut signal_ok = true;
-        let mut fullband_ok = true;
-        for ch in 0..judged_channels(settings) {
-            let subband = self.subband[ch];
-            let signal = self.signal_dependent[ch];
-            let fullband = self.fullband[ch];
-            subband_ok = subband_ok & subband.ok();
-            signal_ok = signal_ok & signal.ok(settings.num_sections as u32);
-            fullband_ok = fullband_ok & fullband.ok();
-        }
-        let state_ok = settings_pass(settings, &held) & (subband_ok & signal_ok & fullband_ok);
-        // This chain also judges the two streams that the signal-dependent estimator is lent. Here none are lent, so that captures and
-        // residuals are handed in twice; judging them twice changes nothing.
+        let signal_part = signal_settings(self.settings);
+        // Besides, nothing is lent: no length is asked, and no value turned away.
         let refused = update_refusal(
-            state_ok,
+            self.ok(),
             signal_part,
             num_capture_channels,
             ring,
@@ -191,58 +274,20 @@ impl ErleEstimator {
             x2,
             y2,
             e2,
-            y2,
-            e2,
             converged_filters,
+            true,
+            ACCEPTED,
         );
         if refused == ACCEPTED {
-            let blocks = one_more(self.blocks_since_reset);
-            self.blocks_since_reset = blocks;
-            if self.startup_phase_length_blocks <= blocks {
-                let subband_part = subband_settings(settings);
-                let fullband_part = fullband_settings(settings);
-                let active = active_sections(
-                    signal_part,
-                    &held,
-                    ring,
-                    spectra,
-                    response_blocks,
-                    responses,
-                );
-                let x2_subbands = render_subbands(signal_part, x2);
-                let loud = is_loud(converged_filters, x2);
-                let min_erle_log2 = fullband_part.min_erle_log2();
-                for ch in 0..num_capture_channels {
-                    let converged = converged_filters[ch];
-                    let own_y2 = part(y2, ch);
-                    let own_e2 = part(e2, ch);
-                    let c = self.subband[ch];
-                    let subband = subband_channel(c, subband_part, converged, x2, own_y2, own_e2);
-                    self.subband[ch] = subband;
-                    let c = self.signal_dependent[ch];
-                    let average = subband.erle;
-                    let average_compensated = subband.erle_onset_compensated;
-                    self.signal_dependent[ch] = signal_channel(
-                        c,
-                        signal_part,
-                        &active[ch],
-                        &x2_subbands,
-                        converged,
-                        own_y2,
-                        own_e2,
-                        &average,
-                        &average_compensated,
-                    );
-                    let c = self.fullband[ch];
-                    self.fullband[ch] = fullband_channel(
-                        c,
-                        min_erle_log2,
-                        loud & converged,
-                        own_y2,
-                        own_e2,
-                    );
-                }
-            }
+            let active = active_sections(
+                signal_part,
+                &self.section_boundaries_blocks,
+                ring,
+                spectra,
+                response_blocks,
+                responses,
+            );
+            self.advance(num_capture_channels, &active, x2, y2, e2, converged_filters);
         }
         ErleAnswer {
             state: self,

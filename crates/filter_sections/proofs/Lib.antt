@@ -1,3 +1,4 @@
 mod Sizes
+pub mod Limits
 mod Loops
 pub mod Claims

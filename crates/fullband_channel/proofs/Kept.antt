@@ -1,5 +1,5 @@
--- What one channel keeps from block to block: after n of at most 5 points a sum is at most n times 65 times 2^100, and the figure
--- is not below the minimum.
+-- What one channel keeps from block to block: after n of at most 5 points a sum is at most n times 65 times 2^100; extremes, quality
+-- estimate and figure are numbers of bounded size; and the figure is not below the minimum.
 use mathlib.Core.Path.{◌≡◌, subst}
 use mathlib.Core.Bool.{Bool, true, ◌&&◌}
 use mathlib.Core.List.{List}
@@ -21,6 +21,7 @@ use Rattle.fullband_channel.specs.declared.instantaneous.ErleInstantaneous.{Erle
 use Rattle.fullband_channel.specs.declared.channel.FullBandChannel.{FullBandChannel}
 use Rattle.fullband_channel.specs.Instantaneous.{new_log2, holding, accumulated, learnt, cleared, accumulators_reset, fresh}
 use Rattle.fullband_channel.specs.Channel.{figure_share, channel_ok, fresh_channel, with_new, with_point, one_block_less, channel_after}
+use Rattle.fullband_channel.proofs.Bounded.{FigureSized, Bounded, NewSized, figure-sized, accumulated-bounded, learnt-bounded, reset-bounded, fresh-bounded, new-sized}
 
 -- ---- sums
 
@@ -49,6 +50,10 @@ cleared-kept : (greatest least : Float) → SumsKept (cleared greatest least)
 unfolding cleared
 cleared-kept greatest least = record { few = lit≤ tt; capture = no-sum; residual = no-sum }
 
+fresh-sums : SumsKept fresh
+unfolding fresh
+fresh-sums = cleared-kept _ _
+
 accumulated-kept :
     (capture residual : Float) (i : ErleInstantaneous) → SumOf 1 capture → SumOf 1 residual → SumsKept i → SumsKept (accumulated capture residual i)
 unfolding accumulated holding
@@ -68,21 +73,25 @@ learnt-kept value i kept = record { few = kept.few; capture = kept.capture; resi
 
 -- ---- a channel
 
--- What a channel keeps: its sums, and a figure that is not below the minimum.
+-- What a channel keeps: its sums, bounded extremes, quality estimate and figure, and a figure that is not below the minimum.
 pub record ChannelKept (min : Float) (c : FullBandChannel) : Type 0 where
   sums : SumsKept c.instantaneous_erle
+  pub bounded : Bounded c.instantaneous_erle
+  pub sized : FigureSized c.erle_time_domain_log2
   pub figure : le min c.erle_time_domain_log2 ≡ true
 
-module _ (min : Float) (some : T (number min)) where
+module _ (min : Float) (some : T (number min)) (sized : FigureSized min) where
   pub fresh_kept : ChannelKept min (fresh_channel min)
-  unfolding fresh_channel fresh
-  fresh_kept = record { sums = cleared-kept _ _; figure = not-below-itself min some }
+  unfolding fresh_channel
+  fresh_kept = record { sums = fresh-sums; bounded = fresh-bounded; sized = sized; figure = not-below-itself min some }
 
-  new-kept : (new : OptionalNumber) (c : FullBandChannel) → ChannelKept min c → ChannelKept min (with_new min new c)
-  new-kept Absent c kept = kept
-  new-kept (Number value) c kept =
+  new-kept : (new : OptionalNumber) (c : FullBandChannel) → NewSized new → ChannelKept min c → ChannelKept min (with_new min new c)
+  new-kept Absent c new kept = kept
+  new-kept (Number value) c new kept =
       record {
         sums = learnt-kept value c.instantaneous_erle kept.sums;
+        bounded = learnt-bounded c.instantaneous_erle new kept.bounded;
+        sized = figure-sized sized kept.sized new;
         figure = larger-not-below min (moved c.erle_time_domain_log2 value figure_share) some;
       }
 
@@ -92,14 +101,22 @@ module _ (min : Float) (some : T (number min)) where
   unfolding with_point
   point-kept capture residual c p q kept =
       let i = c.instantaneous_erle in
-      new-kept (new_log2 capture residual i) _
-      (record { sums = accumulated-kept capture residual i p q kept.sums; figure = kept.figure })
+      new-kept (new_log2 capture residual i) _ (new-sized capture residual i)
+      (record {
+        sums = accumulated-kept capture residual i p q kept.sums;
+        bounded = accumulated-bounded capture residual i kept.bounded;
+        sized = kept.sized;
+        figure = kept.figure;
+      })
 
   less-kept : (c : FullBandChannel) → ChannelKept min c → ChannelKept min (one_block_less c)
   unfolding one_block_less accumulators_reset
   less-kept c kept =
+      let none = is_zero (fallen c.hold_counter_time_domain) in
       record {
-        sums = cond_has SumsKept (is_zero (fallen c.hold_counter_time_domain)) (λ e. cleared-kept _ _) (λ e. kept.sums);
+        sums = cond_has SumsKept none (λ e. cleared-kept _ _) (λ e. kept.sums);
+        bounded = cond_has Bounded none (λ e. reset-bounded c.instantaneous_erle kept.bounded) (λ e. kept.bounded);
+        sized = kept.sized;
         figure = kept.figure;
       }
 

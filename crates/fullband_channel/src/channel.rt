@@ -55,8 +55,8 @@ impl FullBandChannel {
 
     // Whether number 20 lets the record pass.
     #[tactic(auto, unfolding(crate::specs::Channel::channel_ok))]
-    pub fn ok(self) -> bool
-        ensures { result ≡ channel_ok self }
+    pub fn ok(&self) -> bool
+        ensures { result ≡ channel_ok self.now }
     {
         let inst = self.instantaneous_erle;
         (inst.num_points < POINTS_TO_ACCUMULATE)

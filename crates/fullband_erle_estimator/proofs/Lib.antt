@@ -4,3 +4,4 @@ pub mod Updates
 pub mod Constants
 pub mod Cases
 pub mod Runs
+pub mod Figures

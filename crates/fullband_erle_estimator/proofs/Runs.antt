@@ -1,34 +1,32 @@
--- What a state keeps over any list of calls: its settings, and what each of its channels keeps.
+-- What a state keeps over any list of calls: its settings, and what each of its channels keeps. So it is taken up again.
 use mathlib.Core.Path.{◌≡◌, refl, sym, subst}
 use mathlib.Core.Bool.{Bool, true, false}
-use mathlib.Core.List.{List, [], ◌∷◌}
+use mathlib.Core.List.{List}
 use Prim.Native.Nat.{ℕ, ◌+◌, ◌*◌, ◌^◌, ◌≤◌, ◌<◌}
 use native.Mathlib.Omega.{arith}
 use borrow.Author.Tests.{eqb-true}
 use lib.Dec.{T, eqb}
-use lib.Ieee.{Float, binary32, add, le}
+use lib.Ieee.{Float, binary32, add}
 use lib.ListN.{length, get_or}
-use Rattle.aec3_common.specs.Binary32.{smaller, greatest_value, within, values_ok}
+use Rattle.aec3_common.specs.Binary32.{greatest_value, within, values_ok}
 use Rattle.aec3_common.specs.Calls.{Call, update, reset}
-use Rattle.aec3_common.specs.Lists.{every}
 use Rattle.aec3_common.specs.Refusal.{accepted, bad_state}
 use Rattle.aec3_common.specs.Spectra.{part, sum}
 use Rattle.aec3_common.proofs.Bands.{part_length, part-every}
 use Rattle.aec3_common.proofs.Calls.{UpdateOk, few-channels, update-ok, update-not-20, run-keeps}
-use Rattle.aec3_common.proofs.Choices.{and_left, and_right, cond_has}
+use Rattle.aec3_common.proofs.Choices.{cond_has}
 use Rattle.aec3_common.proofs.Every.{every_first}
-use Rattle.aec3_common.proofs.Floats.{not-below-itself, smaller-not-below}
 use Rattle.aec3_common.proofs.Numbers.{number, UpTo, no-sum, sum-up-to, log2-number}
 use Rattle.aec3_common.proofs.Tables.{get_or-tab, get_or-tab-first}
 use Rattle.fullband_channel.specs.declared.channel.FullBandChannel.{FullBandChannel}
 use Rattle.fullband_channel.specs.Instantaneous.{epsilon}
 use Rattle.fullband_channel.specs.Channel.{channel_ok, fresh_channel, channel_after}
+use Rattle.fullband_channel.proofs.Bounded.{FigureSized, log2-above-figure}
 use Rattle.fullband_channel.proofs.Kept.{SumOf, ChannelKept, fresh_kept, after_kept, channel-ok}
 use Rattle.fullband_erle_estimator.specs.declared.settings.FullBandSettings.{FullBandSettings}
 use Rattle.fullband_erle_estimator.specs.declared.FullBandErleEstimator.{FullBandErleEstimator}
-use Rattle.fullband_erle_estimator.specs.declared.FullBandAnswer.{FullBandAnswer}
-use Rattle.fullband_erle_estimator.specs.FullBand.{settings_refusal, state_ok, state_refusal, update_refusal, min_log2, started, start_answer, reset_answer, no_channel, channel_at, updated, update_answer, least_from, least_or, fullband_log2}
-use Rattle.fullband_erle_estimator.specs.Runs.{answer, run, NeverBadState, FiguresNotBelowMinimum}
+use Rattle.fullband_erle_estimator.specs.FullBand.{settings_refusal, state_ok, state_refusal, update_refusal, min_log2, started, start_answer, reset_answer, no_channel, channel_at, updated, update_answer}
+use Rattle.fullband_erle_estimator.specs.Runs.{answer, run, NeverBadState}
 
 -- the sum of a channel's values is one point
 one-point : (n : ℕ) (xs : List Float) (ch : ℕ) → length xs ≡ n * 65 → values_ok xs ≡ true → ch < n → SumOf 1 (sum (part xs ch))
@@ -41,12 +39,16 @@ one-point n xs ch long ok h =
 
 -- What a state keeps: its settings, and what each of its channels keeps.
 pub record Kept (g : FullBandSettings) (s : FullBandErleEstimator) : Type 0 where
-  settings : s.settings ≡ g
-  channels : (ch : ℕ) → ch < g.num_capture_channels → ChannelKept (min_log2 g) (channel_at s ch)
+  pub settings : s.settings ≡ g
+  pub channels : (ch : ℕ) → ch < g.num_capture_channels → ChannelKept (min_log2 g) (channel_at s ch)
 
-min-number : (g : FullBandSettings) → T (number (min_log2 g))
+pub min-number : (g : FullBandSettings) → T (number (min_log2 g))
 unfolding min_log2
 min-number g = log2-number (add binary32 g.min epsilon)
+
+pub min-sized : (g : FullBandSettings) → FigureSized (min_log2 g)
+unfolding min_log2
+min-sized g = log2-above-figure g.min
 
 module _ (g : FullBandSettings) (passed : settings_refusal g ≡ accepted) where
   few : g.num_capture_channels ≤ 4
@@ -60,7 +62,7 @@ module _ (g : FullBandSettings) (passed : settings_refusal g ≡ accepted) where
         settings = refl;
         channels = λ ch h.
             subst (ChannelKept (min_log2 g)) (sym (get_or-tab 4 (λ c. fresh_channel (min_log2 g)) ch no_channel (omega (arith, few))))
-            (fresh_kept (min_log2 g) (min-number g));
+            (fresh_kept (min_log2 g) (min-number g) (min-sized g));
       }
 
   pub updated-kept :
@@ -78,7 +80,7 @@ module _ (g : FullBandSettings) (passed : settings_refusal g ≡ accepted) where
         channels = λ ch h.
             rw kept.settings
             (subst (ChannelKept (min_log2 g)) (sym (get_or-tab-first 4 n next (channel_at s) ch no_channel few h))
-            (after_kept (min_log2 g) (min-number g) (get_or converged ch false) render (part capture ch) (part residual ch) (channel_at s ch)
+            (after_kept (min_log2 g) (min-number g) (min-sized g) (get_or converged ch false) render (part capture ch) (part residual ch) (channel_at s ch)
             (one-point n capture ch given.long_capture given.capture_ok h)
             (one-point n residual ch given.long_residual given.residual_ok h)
             (kept.channels ch h)));
@@ -94,7 +96,7 @@ module _ (g : FullBandSettings) (passed : settings_refusal g ≡ accepted) where
       (λ e. kept)
   answer-kept s reset kept = cond_has (Kept g) (eqb (state_refusal s) accepted) (λ e. rw kept.settings started-kept) (λ e. kept)
 
-  run-kept : (calls : List Call) → Kept g (run (start_answer g).state calls)
+  pub run-kept : (calls : List Call) → Kept g (run (start_answer g).state calls)
   unfolding run start_answer
   run-kept calls = run-keeps (Kept g) (λ s c. (answer s c).state) answer-kept calls _ (rw passed started-kept)
 
@@ -119,47 +121,3 @@ never-bad-state g e calls =
     let s = run (start_answer g).state calls in
     let ok = state-ok g s e (run-kept g e calls) in
     record { calls = λ next. answer-not-20 s next ok; readings = rw ok }
-
--- ---- figures
-
-abbrev not_below : Float → FullBandChannel → Bool
-not_below min c = le min c.erle_time_domain_log2
-
--- what no figure is below, the least is not
-least-from-not-below :
-    (min x : Float) (cs : List FullBandChannel) → le min x ≡ true → every (not_below min) cs ≡ true → le min (least_from x cs) ≡ true
-unfolding least_from every
-least-from-not-below min x [] p all = p
-least-from-not-below min x (c ∷ cs) p all =
-    least-from-not-below min (smaller x c.erle_time_domain_log2) cs
-    (smaller-not-below min x c.erle_time_domain_log2 p (and_left (not_below min c) _ all))
-    (and_right (not_below min c) _ all)
-
-least-not-below :
-    (min none : Float) (cs : List FullBandChannel) → le min none ≡ true → every (not_below min) cs ≡ true → le min (least_or none cs) ≡ true
-unfolding least_or every
-least-not-below min none [] p all = p
-least-not-below min none (c ∷ cs) p all =
-    least-from-not-below min c.erle_time_domain_log2 cs (and_left (not_below min c) _ all) (and_right (not_below min c) _ all)
-
-pub figures-not-below-minimum : (g : FullBandSettings) → (start_answer g).refused ≡ accepted → FiguresNotBelowMinimum g (start_answer g).state
-unfolding FiguresNotBelowMinimum start_answer fullband_log2
-figures-not-below-minimum g e calls =
-    let s = run (start_answer g).state calls in
-    let kept = run-kept g e calls in
-    let min = min_log2 g in
-    record {
-      channels = λ ch h. (kept.channels ch h).figure;
-      least =
-          rw kept.settings
-          (least-not-below min min _ (not-below-itself min (min-number g))
-          (every_first (not_below min) g.num_capture_channels s.channels no_channel (λ ch h. (kept.channels ch h).figure)));
-    }
-
--- ---- a start
-
--- what is answered by the definition promises both
-pub start-promises :
-    (g : FullBandSettings) {r : FullBandAnswer} → r ≡ start_answer g
-    → (r ≡ start_answer g) × ((r.refused ≡ accepted → NeverBadState r.state) × (r.refused ≡ accepted → FiguresNotBelowMinimum g r.state))
-start-promises g same = (same, (rw same (never-bad-state g), rw same (figures-not-below-minimum g)))

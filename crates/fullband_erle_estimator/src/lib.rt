@@ -8,7 +8,7 @@ ghost use Rattle.aec3_common.specs.Lists.{every};
 ghost use Rattle.aec3_common.specs.Refusal.{accepted};
 ghost use Rattle.fullband_channel.specs.Channel.{channel_ok};
 ghost use Rattle.fullband_erle_estimator.specs.FullBand.{state_ok, started as FullBand·started, start_answer, reset_answer, update_answer, fullband_log2, decibels as FullBand·decibels, log2_answer, decibel_answer, quality_answer};
-ghost use Rattle.fullband_erle_estimator.specs.Runs.{NeverBadState, FiguresNotBelowMinimum};
+ghost use Rattle.fullband_erle_estimator.specs.Runs.{NeverBadState, FiguresNotBelowMinimum, FiguresAreNumbers};
 ghost use Rattle.fullband_erle_estimator.specs.Steps.{loud_for};
 
 use aec3_common::judge::call_refusal;
@@ -93,11 +93,12 @@ pub fn is_loud(converged_filters: &[bool], x2: &[f32]) -> bool
 
 impl FullBandErleEstimator {
     // A start. 1 and 2 are turned away, with a state that every later call turns away. After an accepted start no later call is turned
-    // away under 20, and every log2 figure stays a number not below log2 of (the minimum plus 0.001).
+    // away under 20; figures, extremes and qualities are numbers, and no log2 figure is below log2 of (the minimum plus 0.001).
     pub fn new(settings: FullBandSettings) -> FullBandAnswer
         ensures value { result ≡ start_answer settings }
         ensures never_bad_state { result.refused ≡ accepted → NeverBadState result.state }
         ensures figures_not_below_minimum { result.refused ≡ accepted → FiguresNotBelowMinimum settings result.state }
+        ensures figures_are_numbers { result.refused ≡ accepted → FiguresAreNumbers settings result.state }
     {
         let refused = settings.refusal();
         if refused == ACCEPTED {
@@ -110,23 +111,22 @@ impl FullBandErleEstimator {
     }
 
     // Whether each of the state's channels passes number 20.
-    fn channels_ok(self) -> bool
-        requires { self.settings.num_capture_channels ≤ 4 }
-        ensures { result ≡ every channel_ok (take self.settings.num_capture_channels self.channels) }
+    fn channels_ok(&self) -> bool
+        requires { self.now.settings.num_capture_channels ≤ 4 }
+        ensures { result ≡ every channel_ok (take self.now.settings.num_capture_channels self.now.channels) }
     {
         let count = self.settings.num_capture_channels;
         let mut ok = true;
         for ch in 0..count {
-            let c = self.channels[ch];
-            ok = ok & c.ok();
+            ok = ok & self.channels[ch].ok();
         }
         ok
     }
 
     // Whether number 20 lets the state pass.
     #[tactic(auto, unfolding(crate::specs::FullBand::state_ok))]
-    fn ok(self) -> bool
-        ensures { result ≡ state_ok self }
+    fn ok(&self) -> bool
+        ensures { result ≡ state_ok self.now }
     {
         let settings = self.settings;
         if settings.refusal() == ACCEPTED {

@@ -1,5 +1,5 @@
 -- The loop over the channels in an update.
-use mathlib.Core.Path.{◌≡◌, ap, ◌∙◌}
+use mathlib.Core.Path.{◌≡◌, refl, ap, ◌∙◌}
 use mathlib.Core.Bool.{true}
 use mathlib.Core.List.{List, []}
 use Prim.Native.Nat.{ℕ, ◌+◌, ◌≤◌, ◌<◌}
@@ -9,7 +9,7 @@ use lib.Dec.{ltb}
 use lib.Ieee.{Float}
 use lib.ListN.{length, get_or, set}
 use Rattle.aec3_common.specs.Lists.{every}
-use Rattle.aec3_common.specs.Settings.{headroom_blocks}
+use Rattle.aec3_common.specs.Settings.{headroom_blocks, max_filter_length_blocks}
 use Rattle.aec3_common.proofs.Choices.{cond_same}
 use Rattle.aec3_common.proofs.Every.{every-by}
 use Rattle.aec3_common.proofs.Tables.{Stored, length-tab, get_or-tab, get_or-tab-first, tab-same, stored_more, stored-firsts}
@@ -18,21 +18,13 @@ use Rattle.section_echoes.specs.Packed.{responses_of}
 use Rattle.section_echoes.specs.Steps.{bands, all_active}
 use Rattle.section_echoes.proofs.Least.{active-below}
 use Rattle.correction_factors.specs.Factors.{subband_sums}
+use Rattle.signal_dependent_erle_estimator.specs.declared.settings.SignalDependentSettings.{SignalDependentSettings}
 use Rattle.signal_dependent_erle_estimator.specs.declared.channel.SignalDependentChannel.{SignalDependentChannel}
 use Rattle.signal_dependent_erle_estimator.specs.declared.SignalDependentErleEstimator.{SignalDependentErleEstimator}
 use Rattle.signal_dependent_erle_estimator.specs.Channel.{Lent, channel_after}
-use Rattle.signal_dependent_erle_estimator.specs.SignalDependent.{Update, no_channel, channel_at, active_of, lent_to, updated}
-
--- the active sections of a channel, of all that were found
-pub active-at :
-    (s : SignalDependentErleEstimator) (u : Update) {active : List (List ℕ)} (ch : ℕ)
-    → let g = s.settings in
-    active ≡ all_active u.ring u.spectra (headroom_blocks g.delay_headroom_samples) s.section_boundaries_blocks g.num_sections u.counts u.responses
-    → ch < length u.counts → length u.counts ≤ 4 → get_or active ch [] ≡ active_of s u ch
-unfolding active_of all_active
-active-at s u ch e h few =
-    ap (λ (l : List (List ℕ)). get_or l ch []) e
-    ∙ get_or-tab-first 4 (length u.counts) _ (λ j. bands (λ k. 0)) ch [] few h
+use Rattle.signal_dependent_erle_estimator.specs.SignalDependent.{Update, Powers, no_channel, channel_at, sections_found, active_of, lent_to, updated, after_block}
+use Rattle.signal_dependent_erle_estimator.specs.Steps.{Passed}
+use Rattle.signal_dependent_erle_estimator.proofs.Judged.{few-captures, one-section, eight-sections, headroom-inside}
 
 -- in each band, by the echo sums of the sections
 abbrev active_in : SignalDependentErleEstimator → Update → ℕ → ℕ → ℕ
@@ -48,12 +40,38 @@ active_in s u ch k =
 pub active-within :
     (s : SignalDependentErleEstimator) (u : Update) (ch : ℕ) → 1 ≤ s.settings.num_sections
     → every (λ n. ltb n s.settings.num_sections) (active_of s u ch) ≡ true
-unfolding active_of active_sections
+unfolding sections_found active_sections
 active-within s u ch some =
     every-by (λ n. ltb n s.settings.num_sections) (active_of s u ch) 0
     (λ k h.
     let b : k < 65 = omega (arith, length-tab 65 (active_in s u ch)) in
     rw (get_or-tab 65 (active_in s u ch) k 0 b) (lt-ltb _ s.settings.num_sections (active-below s.settings.num_sections _ some)))
+
+-- An accepted update: what is asked of finding active sections, and what is found with two sections or more.
+module _ (s : SignalDependentErleEstimator) (u : Update) (ok : Passed s.settings u) where
+  abbrev g : SignalDependentSettings
+  g = s.settings
+
+  few-counts : length u.counts ≤ 4
+  few-counts = omega (arith, ok.counts, ok.count, few-captures g ok.state)
+
+  pub found-asks : (1 < g.num_sections → headroom_blocks g.delay_headroom_samples < max_filter_length_blocks) × (g.num_sections ≤ 8) × (length u.counts ≤ 4)
+  found-asks = (λ many. headroom-inside g ok.state many, eight-sections g ok.state, few-counts)
+
+  module _
+      {active : List (List ℕ)}
+      (found :
+      1 < g.num_sections
+      → active ≡ all_active u.ring u.spectra (headroom_blocks g.delay_headroom_samples) s.section_boundaries_blocks g.num_sections u.counts u.responses)
+    where
+      pub found-at : 1 < g.num_sections → (ch : ℕ) → ch < u.channels → get_or active ch [] ≡ active_of s u ch
+      unfolding sections_found all_active
+      found-at many ch h =
+          ap (λ (l : List (List ℕ)). get_or l ch []) (found many)
+          ∙ get_or-tab-first 4 (length u.counts) _ (λ j. bands (λ k. 0)) ch [] few-counts (omega (arith, h, ok.counts))
+
+      pub found-within : 1 < g.num_sections → (ch : ℕ) → ch < u.channels → every (λ n. ltb n g.num_sections) (get_or active ch []) ≡ true
+      found-within many ch h = rw (found-at many ch h) (active-within s u ch (one-section g ok.state))
 
 -- What the loop has done at ch: the records before it are updated, by the active sections that were found, the render sums and what
 -- each channel is lent.
@@ -82,20 +100,36 @@ module _
 
     -- all records
     pub updating-over :
-        (u : Update) (average average_compensated : ℕ → List Float)
-        → s.settings.num_capture_channels ≤ ch → length u.counts ≡ s.settings.num_capture_channels → length u.counts ≤ 4
-        → let g = s.settings in
-        active ≡ all_active u.ring u.spectra (headroom_blocks g.delay_headroom_samples) s.section_boundaries_blocks g.num_sections u.counts u.responses
-        → renders ≡ subband_sums u.render → ((ch : ℕ) → lent ch ≡ lent_to u average average_compensated ch)
-        → r ≡ updated s u average average_compensated
+        (p : Powers) (average average_compensated : ℕ → List Float)
+        → s.settings.num_capture_channels ≤ ch
+        → renders ≡ subband_sums p.render → ((ch : ℕ) → lent ch ≡ lent_to p average average_compensated ch)
+        → r ≡ updated s p (λ ch. get_or active ch []) average average_compensated
     unfolding updated
-    updating-over u average average_compensated over counted few found summed same =
+    updating-over p average average_compensated over summed same =
         λ i. record { settings = t.settings i; section_boundaries_blocks = t.boundaries i; channels = all i }
       where
-        all : r.channels ≡ (updated s u average average_compensated).channels
+        all : r.channels ≡ (updated s p (λ ch. get_or active ch []) average average_compensated).channels
         all =
             stored-firsts t.stored over
-            ∙ tab-same 4 no_channel _ _
-            (λ j b.
-            cond_same (ltb j s.settings.num_capture_channels) (channel_at s j)
-            (λ q. rw (active-at s u j found (omega (arith, ltb-true j s.settings.num_capture_channels q)) few, summed, same j)))
+            ∙ tab-same 4 no_channel _ _ (λ j b. cond_same (ltb j s.settings.num_capture_channels) (channel_at s j) (λ q. rw (summed, same j) refl))
+
+-- Of the active sections only those of the state's channels count, and with one section none.
+pub block-alone :
+    (s : SignalDependentErleEstimator) (p : Powers) {active other : ℕ → List ℕ} (average average_compensated : ℕ → List Float)
+    → (1 < s.settings.num_sections → (ch : ℕ) → ch < s.settings.num_capture_channels → active ch ≡ other ch)
+    → after_block s p active average average_compensated ≡ after_block s p other average average_compensated
+unfolding after_block updated
+block-alone s p average average_compensated same =
+    cond_same (ltb 1 s.settings.num_sections) s
+    (λ many i.
+    record {
+      settings = s.settings;
+      section_boundaries_blocks = s.section_boundaries_blocks;
+      channels =
+          tab-same 4 no_channel _ _
+          (λ j b.
+          cond_same (ltb j s.settings.num_capture_channels) (channel_at s j)
+          (λ q.
+          ap (λ (l : List ℕ). channel_after s.settings l (subband_sums p.render) (lent_to p average average_compensated j) (channel_at s j))
+          (same (ltb-true 1 s.settings.num_sections many) j (ltb-true j s.settings.num_capture_channels q)))) i;
+    })

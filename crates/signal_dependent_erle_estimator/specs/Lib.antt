@@ -1,4 +1,5 @@
 pub mod Channel
+pub mod Range
 pub mod Runs
 pub mod SignalDependent
 pub mod Steps

@@ -1,9 +1,9 @@
 -- The signal-dependent estimator: start, update and reset, and the calls that are turned away.
-use Rattle.std.specs.Prelude.{Bool, true, false, cond, ◌&&◌, List, [], ℕ, zero, suc, ◌*◌, leb, ltb, eqb, Float, length, get_or, take}
-use Rattle.aec3_common.specs.Binary32.{zero32, values_ok}
-use Rattle.aec3_common.specs.Calls.{lengths_ok, values_in_range}
+use Rattle.std.specs.Prelude.{Bool, true, false, cond, ◌&&◌, List, [], ◌++◌, ℕ, zero, suc, ◌*◌, leb, ltb, eqb, Float, length, get_or, take}
+use Rattle.aec3_common.specs.Binary32.{zero32}
+use Rattle.aec3_common.specs.Calls.{lengths_ok, value_refusal}
 use Rattle.aec3_common.specs.Lists.{tab, every}
-use Rattle.aec3_common.specs.Refusal.{unless, first_of, accepted, bad_channel_count, bad_ring, bad_length, bad_value, bad_place, bad_state, other_channel_count}
+use Rattle.aec3_common.specs.Refusal.{unless, first_of, lesser, accepted, bad_channel_count, bad_ring, bad_length, bad_place, bad_state, other_channel_count}
 use Rattle.aec3_common.specs.Settings.{max_capture_channels, headroom_blocks, render_channels_ok, sectioned_settings_refusal}
 use Rattle.aec3_common.specs.Spectra.{part}
 use Rattle.spectrum_buffer.specs.Ring.{slots_ok, place_ok}
@@ -33,6 +33,26 @@ pub record Update : Type 0 where
   pub capture : List Float
   pub residual : List Float
   pub converged : List Bool
+
+-- An update in two, beside its channel count: what the echoes are made of, which give the active sections; and the powers and flags, which by
+-- these sections (and here the two streams) move the estimator.
+pub record Echoes : Type 0 where
+  pub ring : RenderRing
+  pub spectra : List Float
+  pub counts : List ℕ
+  pub responses : List Float
+
+abbrev pub echoes_of : Update → Echoes
+echoes_of u = record { ring = u.ring; spectra = u.spectra; counts = u.counts; responses = u.responses }
+
+pub record Powers : Type 0 where
+  pub render : List Float
+  pub capture : List Float
+  pub residual : List Float
+  pub converged : List Bool
+
+abbrev pub powers_of : Update → Powers
+powers_of u = record { render = u.render; capture = u.capture; residual = u.residual; converged = u.converged }
 
 -- ---- calls turned away
 
@@ -99,35 +119,32 @@ unfoldable pub all_lengths_ok : ℕ → Update → List Float → List Float →
 all_lengths_ok filter_length u average average_compensated =
     lent_lengths_ok filter_length u && eqb (length average) (u.channels * 65) && eqb (length average_compensated) (u.channels * 65)
 
--- number 6, of what an update is lent
-unfoldable pub lent_values_ok : Update → Bool
-lent_values_ok u = values_in_range u.render u.capture u.residual && values_ok u.spectra && values_ok u.responses
+-- all values that an update is lent, one list behind the other
+unfoldable pub lent_values : Update → List Float
+lent_values u = u.render ++ u.capture ++ u.residual ++ u.spectra ++ u.responses
 
--- and of the two streams: a lent average is judged as a spectrum value
-unfoldable pub all_values_ok : Update → List Float → List Float → Bool
-all_values_ok u average average_compensated = lent_values_ok u && values_ok average && values_ok average_compensated
-
--- The first of 20, 21, 2, 4, 9, 5 and 6, or 0, where it is known whether 20, 5 and 6 let the call pass; here and in the whole estimator.
--- 2 is of the ring's render channels, since 21 has judged the capture channels; 1 and 3 are in 20; 8 does not arise: the headroom blocks
--- are the only offset, and 4 has judged them against the slots.
-abbrev pub refusal_by : Bool → SignalDependentSettings → Update → Bool → Bool → ℕ
-refusal_by passes20 g u lengths_ok values_ok =
+-- The first of 20, 21, 2, 4, 9, 5 and 6, or 0, where it is known whether 20 and 5 let the call pass, and what is said of its values; here
+-- and in the whole estimator. 2 is of the ring's render channels, since 21 has judged the capture channels; 1 and 3 are in 20; 8 does not
+-- arise: the headroom blocks are the only offset, and 4 has judged them against the slots.
+abbrev pub refusal_by : Bool → SignalDependentSettings → Update → Bool → ℕ → ℕ
+refusal_by passes20 g u lengths_ok values_refused =
     unless passes20 bad_state
     (unless (eqb u.channels g.num_capture_channels) other_channel_count
     (first_of (ring_refusal (headroom_blocks g.delay_headroom_samples) u.ring)
     (unless lengths_ok bad_length
-    (unless values_ok bad_value
-    accepted))))
+    values_refused)))
 
--- the state is told by whether number 20 lets it pass, and by its settings
-unfoldable pub refusal_of : Bool → SignalDependentSettings → Update → List Float → List Float → ℕ
-refusal_of passes20 g u average average_compensated =
-    refusal_by passes20 g u
-    (all_lengths_ok g.filter_length_blocks u average average_compensated)
-    (all_values_ok u average average_compensated)
+-- The same where the caller is lent more: it is known whether that has the length that 5 asks, and under which number its values are turned away.
+abbrev pub refusal_beside : Bool → SignalDependentSettings → Update → (others_lengths_ok : Bool) → (others_refused : ℕ) → ℕ
+refusal_beside passes20 g u others_lengths_ok others_refused =
+    refusal_by passes20 g u (lent_lengths_ok g.filter_length_blocks u && others_lengths_ok) (lesser (value_refusal (lent_values u)) others_refused)
 
+-- a lent average is judged as a spectrum value
 unfoldable pub update_refusal : SignalDependentErleEstimator → Update → List Float → List Float → ℕ
-update_refusal s u average average_compensated = refusal_of (state_ok s) s.settings u average average_compensated
+update_refusal s u average average_compensated =
+    refusal_by (state_ok s) s.settings u
+    (all_lengths_ok s.settings.filter_length_blocks u average average_compensated)
+    (value_refusal (lent_values u ++ average ++ average_compensated))
 
 -- ---- start, reset, update
 
@@ -179,27 +196,31 @@ no_channel =
 abbrev pub channel_at : SignalDependentErleEstimator → ℕ → SignalDependentChannel
 channel_at s ch = get_or s.channels ch no_channel
 
--- the active sections of a channel, by what it is lent
-unfoldable pub active_of : SignalDependentErleEstimator → Update → ℕ → List ℕ
-active_of s u ch =
-    let g = s.settings in
-    active_sections u.ring u.spectra (headroom_blocks g.delay_headroom_samples) s.section_boundaries_blocks
-    g.num_sections (get_or u.counts ch 0) (responses_of u.counts u.responses ch)
+-- the active sections of a channel: they depend on settings, boundaries, ring and responses, and on nothing else
+unfoldable pub sections_found : SignalDependentSettings → List ℕ → Echoes → ℕ → List ℕ
+sections_found g boundaries e ch =
+    active_sections e.ring e.spectra (headroom_blocks g.delay_headroom_samples) boundaries
+    g.num_sections (get_or e.counts ch 0) (responses_of e.counts e.responses ch)
+
+-- of a state, in an update
+abbrev pub active_of : SignalDependentErleEstimator → Update → ℕ → List ℕ
+active_of s u ch = sections_found s.settings s.section_boundaries_blocks (echoes_of u) ch
 
 -- what a channel is lent, with its own streams of the subband estimator
-abbrev pub lent_to : Update → (ℕ → List Float) → (ℕ → List Float) → ℕ → Lent
-lent_to u average average_compensated ch =
+abbrev pub lent_to : Powers → (ℕ → List Float) → (ℕ → List Float) → ℕ → Lent
+lent_to p average average_compensated ch =
     record {
-      converged = get_or u.converged ch false;
-      capture = part u.capture ch;
-      residual = part u.residual ch;
+      converged = get_or p.converged ch false;
+      capture = part p.capture ch;
+      residual = part p.residual ch;
       average = average ch;
       average_compensated = average_compensated ch;
     }
 
--- an update, by the streams of each channel, moves the state's channels; records beyond them stay
-unfoldable pub updated : SignalDependentErleEstimator → Update → (ℕ → List Float) → (ℕ → List Float) → SignalDependentErleEstimator
-updated s u average average_compensated =
+-- A block, by the active sections and the streams of each channel, moves the state's channels; records beyond them stay.
+unfoldable pub updated :
+    SignalDependentErleEstimator → Powers → (active : ℕ → List ℕ) → (average average_compensated : ℕ → List Float) → SignalDependentErleEstimator
+updated s p active average average_compensated =
     record {
       settings = s.settings;
       section_boundaries_blocks = s.section_boundaries_blocks;
@@ -207,16 +228,21 @@ updated s u average average_compensated =
           tab max_capture_channels
           (λ ch.
           cond (ltb ch s.settings.num_capture_channels)
-          (channel_after s.settings (active_of s u ch) (subband_sums u.render) (lent_to u average average_compensated ch) (channel_at s ch))
+          (channel_after s.settings (active ch) (subband_sums p.render) (lent_to p average average_compensated ch) (channel_at s ch))
           (channel_at s ch));
     }
 
--- With one section an accepted update changes nothing.
-unfoldable pub after_accepted : SignalDependentErleEstimator → Update → (ℕ → List Float) → (ℕ → List Float) → SignalDependentErleEstimator
-after_accepted s u average average_compensated = cond (ltb 1 s.settings.num_sections) (updated s u average average_compensated) s
+-- With one section it changes nothing.
+unfoldable pub after_block :
+    SignalDependentErleEstimator → Powers → (active : ℕ → List ℕ) → (average average_compensated : ℕ → List Float) → SignalDependentErleEstimator
+after_block s p active average average_compensated = cond (ltb 1 s.settings.num_sections) (updated s p active average average_compensated) s
 
--- The answer: the next state and 0, or the state as it was and the refusal. The two streams are lent packed, 65 numbers for each channel.
+-- The answer: the next state, by the active sections that are found, and 0; or the state as it was and the refusal. The two streams are lent
+-- packed, 65 numbers for each channel.
 unfoldable pub update_answer : SignalDependentErleEstimator → Update → List Float → List Float → SignalDependentAnswer
 update_answer s u average average_compensated =
     let n = update_refusal s u average average_compensated in
-    record { state = cond (eqb n accepted) (after_accepted s u (part average) (part average_compensated)) s; refused = n }
+    record {
+      state = cond (eqb n accepted) (after_block s (powers_of u) (active_of s u) (part average) (part average_compensated)) s;
+      refused = n;
+    }

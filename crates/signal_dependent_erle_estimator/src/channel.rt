@@ -44,11 +44,10 @@ impl SignalDependentChannel {
 
     // Whether number 20 lets the record pass.
     #[tactic(auto, unfolding(crate::specs::SignalDependent::channel_ok))]
-    pub fn ok(self, sections: u32) -> bool
-        ensures { result ≡ channel_ok sections self }
+    pub fn ok(&self, sections: u32) -> bool
+        ensures { result ≡ channel_ok sections self.now }
     {
-        let active = self.n_active_sections;
-        all_below(&active, sections)
+        all_below(&self.n_active_sections, sections)
     }
 
     // What the channel has learnt after an update: where it is not converged, nothing new.

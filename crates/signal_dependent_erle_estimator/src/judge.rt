@@ -1,22 +1,19 @@
 // Which updates are turned away.
-ghost use Rattle.std.specs.Prelude.{◌≡◌, ◌&&◌, ◌*◌, ◌≤◌, leb, eqb, length};
-ghost use Rattle.aec3_common.specs.Binary32.{values_ok};
-ghost use Rattle.aec3_common.specs.Calls.{values_in_range};
+ghost use Rattle.std.specs.Prelude.{◌≡◌, ◌&&◌, ◌++◌, ◌*◌, ◌≤◌, leb, eqb, length};
+ghost use Rattle.aec3_common.specs.Calls.{value_refusal};
 ghost use Rattle.aec3_common.specs.Lists.{every};
 ghost use Rattle.section_echoes.specs.Packed.{total};
 ghost use Rattle.section_echoes.specs.Walk.{slot_length};
-ghost use Rattle.signal_dependent_erle_estimator.specs.SignalDependent.{Update, slots_reach, ring_refusal, responses_ok, all_lengths_ok, refusal_of};
+ghost use Rattle.signal_dependent_erle_estimator.specs.SignalDependent.{Update, slots_reach, ring_refusal, responses_ok, lent_lengths_ok, refusal_beside};
 ghost use Rattle.spectrum_buffer.specs.Ring.{max_slots};
 
 use crate::settings::SignalDependentSettings;
-use aec3_common::judge::{all_values_ok, lengths_ok};
+use aec3_common::judge::{lengths_ok, lesser, powers_refusal, value_refusal};
 use aec3_common::refusal::{
-    ACCEPTED, BAD_CHANNEL_COUNT, BAD_LENGTH, BAD_PLACE, BAD_RING, BAD_STATE, BAD_VALUE,
-    OTHER_CHANNEL_COUNT,
+    ACCEPTED, BAD_CHANNEL_COUNT, BAD_LENGTH, BAD_PLACE, BAD_RING, BAD_STATE, OTHER_CHANNEL_COUNT,
 };
 use aec3_common::settings::{headroom_blocks, render_channels_ok};
 use aec3_common::spectra::are_spectra;
-use aec3_common::values_ok;
 use section_echoes::RenderRing;
 use spectrum_buffer::slots_ok;
 
@@ -89,9 +86,9 @@ fn spectra_ok(ring: RenderRing, spectra: &[f32]) -> bool
     spectra.len() == ring.slots * (ring.channels * 65)
 }
 
-// Number 5, of all that is lent.
-#[tactic(auto, unfolding(crate::specs::SignalDependent::all_lengths_ok, crate::specs::SignalDependent::lent_lengths_ok))]
-fn all_lengths_ok(
+// Number 5, of what is lent.
+#[tactic(auto, unfolding(crate::specs::SignalDependent::lent_lengths_ok))]
+fn lent_lengths_ok(
     filter_length: usize,
     channels: usize,
     ring: RenderRing,
@@ -101,41 +98,55 @@ fn all_lengths_ok(
     x2: &[f32],
     y2: &[f32],
     e2: &[f32],
-    average: &[f32],
-    average_compensated: &[f32],
     converged: &[bool],
 ) -> bool
     requires { (ring.slots ≤ max_slots) × (ring.channels ≤ 2) }
-    ensures { result ≡ all_lengths_ok filter_length (record { channels = channels; ring = ring; spectra = spectra.now; counts = counts.now; responses = responses.now; render = x2.now; capture = y2.now; residual = e2.now; converged = converged.now }) average.now average_compensated.now }
+    ensures { result ≡ lent_lengths_ok filter_length (record { channels = channels; ring = ring; spectra = spectra.now; counts = counts.now; responses = responses.now; render = x2.now; capture = y2.now; residual = e2.now; converged = converged.now }) }
 {
     lengths_ok(channels, converged, x2, y2, e2)
         & spectra_ok(ring, spectra)
         & responses_ok(channels, filter_length, counts, responses)
-        & are_spectra(average.len(), channels)
-        & are_spectra(average_compensated.len(), channels)
 }
 
-// Number 6, of all that is lent.
-fn all_lent_values_ok(
+// Of the values of what is lent: 6, or 0.
+#[tactic(auto, using(aec3_common::proofs::Values::value_refusal_append))]
+fn lent_values_refusal(
     spectra: &[f32],
     responses: &[f32],
     x2: &[f32],
     y2: &[f32],
     e2: &[f32],
+) -> u32
+    ensures { result ≡ value_refusal (x2.now ++ y2.now ++ e2.now ++ spectra.now ++ responses.now) }
+{
+    lesser(
+        lesser(powers_refusal(x2, y2, e2), value_refusal(spectra)),
+        value_refusal(responses),
+    )
+}
+
+// Number 5, of the subband estimator's two streams.
+pub(crate) fn streams_lengths_ok(
+    channels: usize,
     average: &[f32],
     average_compensated: &[f32],
 ) -> bool
-    ensures { result ≡ values_in_range x2.now y2.now e2.now && values_ok spectra.now && values_ok responses.now && values_ok average.now && values_ok average_compensated.now }
+    ensures { result ≡ eqb (length average.now) (channels * 65) && eqb (length average_compensated.now) (channels * 65) }
 {
-    all_values_ok(x2, y2, e2)
-        & values_ok(spectra)
-        & values_ok(responses)
-        & values_ok(average)
-        & values_ok(average_compensated)
+    are_spectra(average.len(), channels) & are_spectra(average_compensated.len(), channels)
 }
 
-// The first of 20, 21, 2, 4, 9, 5 and 6, or 0, where it is known whether number 20 lets the state pass.
-#[tactic(auto, unfolding(crate::specs::SignalDependent::refusal_of, crate::specs::SignalDependent::all_values_ok, crate::specs::SignalDependent::lent_values_ok))]
+// Of the values of the two: 6, or 0.
+#[tactic(auto, using(aec3_common::proofs::Values::value_refusal_append))]
+pub(crate) fn streams_refusal(average: &[f32], average_compensated: &[f32]) -> u32
+    ensures { result ≡ value_refusal (average.now ++ average_compensated.now) }
+{
+    lesser(value_refusal(average), value_refusal(average_compensated))
+}
+
+// The first of 20, 21, 2, 4, 9, 5 and 6, or 0, where it is known whether number 20 lets the state pass; and of what the caller is lent
+// besides, whether it has the length that is asked, and under which number its values are turned away.
+#[tactic(auto, unfolding(crate::specs::SignalDependent::lent_values))]
 pub fn update_refusal(
     state_ok: bool,
     settings: SignalDependentSettings,
@@ -147,11 +158,11 @@ pub fn update_refusal(
     x2: &[f32],
     y2: &[f32],
     e2: &[f32],
-    average: &[f32],
-    average_compensated: &[f32],
     converged: &[bool],
+    others_lengths_ok: bool,
+    others_refused: u32,
 ) -> u32
-    ensures { result ≡ refusal_of state_ok settings (record { channels = channels; ring = ring; spectra = spectra.now; counts = counts.now; responses = responses.now; render = x2.now; capture = y2.now; residual = e2.now; converged = converged.now }) average.now average_compensated.now }
+    ensures { result ≡ refusal_beside state_ok settings (record { channels = channels; ring = ring; spectra = spectra.now; counts = counts.now; responses = responses.now; render = x2.now; capture = y2.now; residual = e2.now; converged = converged.now }) others_lengths_ok others_refused }
 {
     if !state_ok {
         return BAD_STATE;
@@ -163,7 +174,7 @@ pub fn update_refusal(
     if refused != ACCEPTED {
         return refused;
     }
-    if !all_lengths_ok(
+    let lengths_ok = lent_lengths_ok(
         settings.filter_length_blocks,
         channels,
         ring,
@@ -173,15 +184,14 @@ pub fn update_refusal(
         x2,
         y2,
         e2,
-        average,
-        average_compensated,
         converged,
-    ) {
-        return BAD_LENGTH;
-    }
-    if all_lent_values_ok(spectra, responses, x2, y2, e2, average, average_compensated) {
-        ACCEPTED
+    );
+    if lengths_ok & others_lengths_ok {
+        lesser(
+            lent_values_refusal(spectra, responses, x2, y2, e2),
+            others_refused,
+        )
     } else {
-        BAD_VALUE
+        BAD_LENGTH
     }
 }

@@ -3,26 +3,27 @@
 
 mod channel;
 pub mod judge;
+mod sections;
 mod settings;
 
-ghost use Rattle.std.specs.Prelude.{◌≡◌, ◌≤◌, take};
+ghost use Rattle.std.specs.Prelude.{◌≡◌, ◌≤◌, [], get_or, take};
 ghost use Rattle.aec3_common.specs.Lists.{every};
 ghost use Rattle.aec3_common.specs.Refusal.{accepted};
 ghost use Rattle.aec3_common.specs.Spectra.{part as Spectra·part};
+ghost use Rattle.signal_dependent_erle_estimator.specs.Range.{FiguresInRange};
 ghost use Rattle.signal_dependent_erle_estimator.specs.Runs.{NeverBadState};
-ghost use Rattle.signal_dependent_erle_estimator.specs.Steps.{Passed};
-ghost use Rattle.signal_dependent_erle_estimator.specs.SignalDependent.{Update, same_first, boundaries_of, settings_pass, channel_ok, state_ok, started as SignalDependent·started, updated as SignalDependent·updated, start_answer, reset_answer, update_answer};
+ghost use Rattle.signal_dependent_erle_estimator.specs.Steps.{BlockFits};
+ghost use Rattle.signal_dependent_erle_estimator.specs.SignalDependent.{Update, same_first, boundaries_of, settings_pass, channel_ok, state_ok, started as SignalDependent·started, start_answer, reset_answer, after_block, update_answer};
 
 use aec3_common::refusal::{ACCEPTED, BAD_STATE};
-use aec3_common::settings::headroom_blocks;
 use aec3_common::spectra::part;
 pub use aec3_common::streams::erle;
 pub use channel::SignalDependentChannel;
 use correction_factors::subband_sums;
 use filter_sections::section_boundaries;
-use judge::update_refusal;
+use judge::{streams_lengths_ok, streams_refusal, update_refusal};
 pub use section_echoes::RenderRing;
-use section_echoes::all_active_sections;
+pub use sections::active_sections;
 pub use settings::SignalDependentSettings;
 use settings::refused_settings;
 
@@ -94,10 +95,11 @@ fn started(settings: SignalDependentSettings) -> SignalDependentErleEstimator
 
 impl SignalDependentErleEstimator {
     // A start. 1, 2 and 3 are turned away, with a state that every later call turns away. After an accepted start no later
-    // call is turned away under 20.
+    // call is turned away under 20; streams, estimates, references and factors stay in range.
     pub fn new(settings: SignalDependentSettings) -> SignalDependentAnswer
         ensures value { result ≡ start_answer settings }
         ensures never_bad_state { result.refused ≡ accepted → NeverBadState result.state }
+        ensures figures_in_range { result.refused ≡ accepted → FiguresInRange settings result.state }
     {
         let refused = settings.refusal();
         if refused == ACCEPTED {
@@ -110,27 +112,25 @@ impl SignalDependentErleEstimator {
     }
 
     // Whether each of the state's channels passes number 20.
-    fn channels_ok(self) -> bool
-        requires { (self.settings.num_capture_channels ≤ 4) × (self.settings.num_sections ≤ 8) }
-        ensures { result ≡ every (channel_ok self.settings.num_sections) (take self.settings.num_capture_channels self.channels) }
+    fn channels_ok(&self) -> bool
+        requires { (self.now.settings.num_capture_channels ≤ 4) × (self.now.settings.num_sections ≤ 8) }
+        ensures { result ≡ every (channel_ok self.now.settings.num_sections) (take self.now.settings.num_capture_channels self.now.channels) }
     {
         let count = self.settings.num_capture_channels;
         let sections = self.settings.num_sections as u32;
         let mut ok = true;
         for ch in 0..count {
-            let c = self.channels[ch];
-            ok = ok & c.ok(sections);
+            ok = ok & self.channels[ch].ok(sections);
         }
         ok
     }
 
-    // Whether number 20 lets the state pass.
+    // Whether number 20 lets the state pass. The state is lent, since one that is handed over by value is copied whole.
     #[tactic(auto, unfolding(crate::specs::SignalDependent::state_ok))]
-    fn ok(self) -> bool
-        ensures { result ≡ state_ok self }
+    fn ok(&self) -> bool
+        ensures { result ≡ state_ok self.now }
     {
-        let held = self.section_boundaries_blocks;
-        if settings_pass(self.settings, &held) {
+        if settings_pass(self.settings, &self.section_boundaries_blocks) {
             self.channels_ok()
         } else {
             false
@@ -155,58 +155,46 @@ impl SignalDependentErleEstimator {
         }
     }
 
-    // A block that was judged, with two sections or more: every channel has new active sections and streams, and a converged one learns.
-    fn updated(
-        mut self,
+    // The inner update: a block that was judged, by the active sections of each channel. With one section nothing happens; else every channel has
+    // these and new streams, and a converged one learns.
+    fn advance(
+        &mut self,
         num_capture_channels: usize,
-        ring: RenderRing,
-        spectra: &[f32],
-        response_blocks: &[usize],
-        responses: &[f32],
+        active: &[[u32; 65]; 4],
         x2: &[f32],
         y2: &[f32],
         e2: &[f32],
         average: &[f32],
         average_compensated: &[f32],
         converged_filters: &[bool],
-    ) -> SignalDependentErleEstimator
-        requires bound { 2 ≤ self.settings.num_sections }
-        requires passed { Passed self (record { channels = num_capture_channels; ring = ring; spectra = spectra.now; counts = response_blocks.now; responses = responses.now; render = x2.now; capture = y2.now; residual = e2.now; converged = converged_filters.now }) average.now average_compensated.now }
-        ensures { result ≡ SignalDependent·updated self (record { channels = num_capture_channels; ring = ring; spectra = spectra.now; counts = response_blocks.now; responses = responses.now; render = x2.now; capture = y2.now; residual = e2.now; converged = converged_filters.now }) (Spectra·part average.now) (Spectra·part average_compensated.now) }
+    )
+        requires { BlockFits self.old num_capture_channels (record { render = x2.now; capture = y2.now; residual = e2.now; converged = converged_filters.now }) (λ ch. get_or active.now ch []) average.now average_compensated.now }
+        ensures { self.new ≡ after_block self.old (record { render = x2.now; capture = y2.now; residual = e2.now; converged = converged_filters.now }) (λ ch. get_or active.now ch []) (Spectra·part average.now) (Spectra·part average_compensated.now) }
     {
         let settings = self.settings;
-        let boundaries = self.section_boundaries_blocks;
-        let active = all_active_sections(
-            ring,
-            spectra,
-            headroom_blocks(settings.delay_headroom_samples),
-            &boundaries,
-            settings.num_sections,
-            response_blocks,
-            responses,
-        );
-        let x2_subbands = subband_sums(x2);
-        for ch in 0..num_capture_channels {
-            let c = self.channels[ch];
-            self.channels[ch] = c.update(
-                settings,
-                &active[ch],
-                &x2_subbands,
-                converged_filters[ch],
-                part(y2, ch),
-                part(e2, ch),
-                part(average, ch),
-                part(average_compensated, ch),
-            );
+        if settings.num_sections > 1 {
+            let x2_subbands = subband_sums(x2);
+            for ch in 0..num_capture_channels {
+                let c = self.channels[ch];
+                self.channels[ch] = c.update(
+                    settings,
+                    &active[ch],
+                    &x2_subbands,
+                    converged_filters[ch],
+                    part(y2, ch),
+                    part(e2, ch),
+                    part(average, ch),
+                    part(average_compensated, ch),
+                );
+            }
         }
-        self
     }
 
     // One block: the ring and its spectra, the number of response blocks of each channel and the responses, render, captures and
     // residuals, the subband estimator's two streams, and the flags. 20, 21, 2, 4, 9, 5 and 6 are turned away. With one section
     // it is judged and changes nothing.
     pub fn update(
-        self,
+        mut self,
         num_capture_channels: usize,
         ring: RenderRing,
         spectra: &[f32],
@@ -221,10 +209,9 @@ impl SignalDependentErleEstimator {
     ) -> SignalDependentAnswer
         ensures { result ≡ update_answer self (record { channels = num_capture_channels; ring = ring; spectra = spectra.now; counts = response_blocks.now; responses = responses.now; render = x2.now; capture = y2.now; residual = e2.now; converged = converged_filters.now }) average.now average_compensated.now }
     {
-        let settings = self.settings;
         let refused = update_refusal(
             self.ok(),
-            settings,
+            self.settings,
             num_capture_channels,
             ring,
             spectra,
@@ -233,17 +220,22 @@ impl SignalDependentErleEstimator {
             x2,
             y2,
             e2,
-            average,
-            average_compensated,
             converged_filters,
+            streams_lengths_ok(num_capture_channels, average, average_compensated),
+            streams_refusal(average, average_compensated),
         );
-        if (refused == ACCEPTED) & (settings.num_sections > 1) {
-            let state = self.updated(
-                num_capture_channels,
+        if refused == ACCEPTED {
+            let active = active_sections(
+                self.settings,
+                &self.section_boundaries_blocks,
                 ring,
                 spectra,
                 response_blocks,
                 responses,
+            );
+            self.advance(
+                num_capture_channels,
+                &active,
                 x2,
                 y2,
                 e2,
@@ -251,12 +243,10 @@ impl SignalDependentErleEstimator {
                 average_compensated,
                 converged_filters,
             );
-            SignalDependentAnswer { state, refused }
-        } else {
-            SignalDependentAnswer {
-                state: self,
-                refused,
-            }
+        }
+        SignalDependentAnswer {
+            state: self,
+            refused,
         }
     }
 }

@@ -12,11 +12,13 @@ use Rattle.aec3_common.proofs.Choices.{and_right, and-false, cond_has}
 use Rattle.aec3_common.proofs.Rounding.{Signed}
 use Rattle.filter_sections.specs.Subbands.{max_erle}
 use Rattle.erle_bands.specs.Band.{Sums, fresh_sums, has_ratio, ratio, learns, hold_falls, Streams, fresh_streams, Onset, fresh_onset, onset_learnt, one_block_less}
-use Rattle.erle_bands.proofs.Range.{InOrder, min-between, uncapped-in-order, ratio-signed, StreamsKept, streams-learnt-kept, OnsetKept, onset-learnt-kept, one-block-less-kept}
+use Rattle.aec3_common.proofs.Limits.{min-between, uncapped-in-order}
+use Rattle.filter_sections.proofs.Limits.{AllInOrder}
+use Rattle.erle_bands.proofs.Range.{ratio-signed, StreamsKept, streams-learnt-kept, OnsetKept, onset-learnt-kept, one-block-less-kept}
 use Rattle.subband_erle_estimator.specs.declared.settings.SubbandSettings.{SubbandSettings}
 use Rattle.subband_erle_estimator.specs.declared.channel.SubbandChannel.{SubbandChannel}
 use Rattle.subband_erle_estimator.specs.Channel.{streams_at, onset_at, channel_from, compensated_shown, fresh, Block, max_at, onset_learnt_at, streams_learnt_at, points_after, sums_after, is_sixth, streams_after, onset_after, channel_after}
-use Rattle.subband_erle_estimator.proofs.Parts.{streams-from, onset-from}
+use Rattle.subband_erle_estimator.proofs.Parts.{Long, long-from, streams-from, onset-from}
 use Rattle.subband_erle_estimator.proofs.Sums.{ChannelSums, fresh-sums, BlockOk, sums-after, after-sums}
 
 -- ---- bands
@@ -38,11 +40,9 @@ pub record Copied (c : SubbandChannel) (k : ℕ) : Type 0 where
   pub streams : streams_at c k ≡ streams_at c (shown_band k)
   pub compensated : (onset_at c k).compensated ≡ (onset_at c (shown_band k)).compensated
 
-abbrev pub AllInOrder : SubbandSettings → Type 0
-AllInOrder s = (k : ℕ) → InOrder s.min (max_at s k)
-
--- What a channel keeps: its sums, bands in range, onset values at the minimum, bands 0 and 64 as copies that wait.
+-- What a channel keeps: its lengths and sums, bands in range, onset values at the minimum, bands 0 and 64 as copies that wait.
 pub record ChannelKept (s : SubbandSettings) (c : SubbandChannel) : Type 0 where
+  pub long : Long c
   pub sums : ChannelSums c
   pub streams : (k : ℕ) → k < 65 → StreamsKept s.min (max_at s k) (streams_at c k)
   pub onset : (k : ℕ) → k < 65 → OnsetKept s.min (max_at s k) (onset_at c k)
@@ -76,9 +76,10 @@ module _ (s : SubbandSettings) (n : ℕ) (sums : ℕ → Sums) (streams : ℕ �
       (waiting : (k : ℕ) → k < 65 → inner_band k ≡ false → (onset k).waits ≡ true)
     where
       shown-kept : ChannelKept s record-shown
-      unfolding compensated_shown
+      unfolding compensated_shown record-shown
       shown-kept =
           record {
+            long = long-from n sums (λ k. streams (shown_band k)) (compensated_shown onset);
             sums = heard;
             streams = λ k h.
                 subst (StreamsKept s.min (max_at s k)) (sym (streams-shown k h))
@@ -101,7 +102,7 @@ module _ (s : SubbandSettings) (n : ℕ) (sums : ℕ → Sums) (streams : ℕ �
             outer = λ k h out. ap (λ (o : Onset). o.waits) (onset-shown k h) ∙ waiting k h out;
           }
 
-pub fresh_kept : (s : SubbandSettings) → AllInOrder s → ChannelKept s (fresh s.min)
+pub fresh_kept : (s : SubbandSettings) → AllInOrder s.min s.max_l s.max_h → ChannelKept s (fresh s.min)
 unfolding fresh record-shown compensated_shown
 fresh_kept s limits =
     shown-kept s 0 (λ k. fresh_sums) (λ k. fresh_streams s.min) (λ k. fresh_onset s.min) (fresh-sums s.min)
@@ -125,7 +126,7 @@ module _ (s : SubbandSettings) (b : Block) (c : SubbandChannel) where
   unfolding onset_after
   outer-stays k out = rw (out, and-false s.onset_detection)
 
-  module _ (limits : AllInOrder s) (ok : BlockOk b) (kept : ChannelKept s c) where
+  module _ (limits : AllInOrder s.min s.max_l s.max_h) (ok : BlockOk b) (kept : ChannelKept s c) where
     ratio-plus :
         (k : ℕ) → k < 65 → learns k (sums_after s b c k).residual ≡ true
         → Signed false (ratio (sums_after s b c k).capture (sums_after s b c k).residual)

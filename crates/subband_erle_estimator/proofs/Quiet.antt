@@ -6,20 +6,21 @@ use Rattle.aec3_common.specs.Spectra.{inner_band, shown_band}
 use Rattle.aec3_common.proofs.Bands.{shown-inner, inner-shown, shown-below}
 use Rattle.aec3_common.proofs.Fitting.{level-is-same}
 use Rattle.erle_bands.specs.Band.{one_block_less}
-use Rattle.erle_bands.proofs.Range.{between-positive}
+use Rattle.aec3_common.proofs.Limits.{between-positive}
+use Rattle.filter_sections.proofs.Limits.{AllInOrder}
 use Rattle.erle_bands.proofs.Rest.{Resting, one-block-less-resting, resting-end}
 use Rattle.subband_erle_estimator.specs.declared.settings.SubbandSettings.{SubbandSettings}
 use Rattle.subband_erle_estimator.specs.declared.channel.SubbandChannel.{SubbandChannel}
 use Rattle.subband_erle_estimator.specs.Channel.{streams_at, onset_at, compensated_shown, Block, points_after, sums_after, streams_after, onset_after, channel_after}
 use Rattle.subband_erle_estimator.proofs.Parts.{streams-from, onset-from}
-use Rattle.subband_erle_estimator.proofs.Channels.{AllInOrder, ChannelKept}
+use Rattle.subband_erle_estimator.proofs.Channels.{ChannelKept}
 
 -- with r blocks to go bands 1 to 63 rest, and the two other streams are what they were before
 pub record ChannelResting (r : ℕ) (before c : SubbandChannel) : Type 0 where
   pub onset : (k : ℕ) → k < 65 → inner_band k ≡ true → Resting r (onset_at c k)
   pub streams : (k : ℕ) → k < 65 → streams_at c k ≡ streams_at before k
 
-module _ (s : SubbandSettings) (limits : AllInOrder s) (c : SubbandChannel) (kept : ChannelKept s c) where
+module _ (s : SubbandSettings) (limits : AllInOrder s.min s.max_l s.max_h) (c : SubbandChannel) (kept : ChannelKept s c) where
   module _ (b : Block) (on : s.onset_detection ≡ true) (off : b.converged ≡ false) (k : ℕ) (h : k < 65) where
     -- an unconverged block leaves the streams
     quiet-streams : streams_at (channel_after s b c) k ≡ streams_at c k

@@ -5,16 +5,13 @@ use mathlib.Core.List.{List, [], ◌∷◌}
 use Prim.Native.Nat.{ℕ, zero, suc, ◌<◌}
 use borrow.Author.Tests.{eqb-true, not-true}
 use lib.Dec.{eqb}
-use lib.Ieee.{Float, le}
-use lib.Ieee.Bits.{is_true}
 use lib.ListN.{length, get_or}
-use Rattle.aec3_common.specs.Binary32.{number_from}
 use Rattle.aec3_common.specs.Calls.{Call, update, reset, run_by}
 use Rattle.aec3_common.specs.Lists.{every}
 use Rattle.aec3_common.specs.Refusal.{accepted}
 use Rattle.aec3_common.proofs.Calls.{run-append}
 use Rattle.aec3_common.proofs.Choices.{and_left, and_right}
-use Rattle.aec3_common.proofs.Fitting.{Between}
+use Rattle.aec3_common.proofs.Limits.{InBinary32, number-from}
 use Rattle.erle_bands.specs.Band.{Streams}
 use Rattle.erle_bands.proofs.Rest.{resting-start}
 use Rattle.subband_erle_estimator.specs.declared.settings.SubbandSettings.{SubbandSettings}
@@ -22,7 +19,7 @@ use Rattle.subband_erle_estimator.specs.declared.SubbandErleEstimator.{SubbandEr
 use Rattle.subband_erle_estimator.specs.Subband.{start_answer, reset_answer, update_answer, channel_at, block_of}
 use Rattle.subband_erle_estimator.specs.Resting.{answer, run, accepted_of, unconverged, AtRest, RangeAndRest}
 use Rattle.subband_erle_estimator.proofs.Quiet.{ChannelResting, after-resting, rest-compensated, rest-waits}
-use Rattle.subband_erle_estimator.proofs.Calls.{InBinary32, SettingsOk, settings-ok, Kept, start-answer-kept, run-kept, updated-channel, updated-kept}
+use Rattle.subband_erle_estimator.proofs.Calls.{SettingsOk, settings-ok, Kept, start-answer-kept, run-kept, passed-update, updated-channel, updated-kept}
 
 -- a refused call passes on the state that it got
 refused-stays : (s : SubbandErleEstimator) (c : Call) → eqb (answer s c).refused accepted ≡ false → (answer s c).state ≡ s
@@ -54,7 +51,7 @@ module _ (g : SubbandSettings) (ok : SettingsOk g) (on : g.onset_detection ≡ t
       let off = flag_off converged ch (not-true (get_or converged ch true) quiet) in
       rw e
       (record {
-        kept = updated-kept g ok s channels converged render capture residual resting.kept e;
+        kept = updated-kept g ok s converged render capture residual resting.kept (passed-update s channels converged render capture residual e);
         channel =
             subst (ChannelResting r (channel_at before ch)) (sym (updated-channel g ok s converged render capture residual resting.kept ch h))
             (after-resting g ok.limits (channel_at s ch) (resting.kept.channels ch h) (block_of converged render capture residual ch) on off resting.channel);
@@ -91,14 +88,12 @@ module _ (g : SubbandSettings) (ok : SettingsOk g) (on : g.onset_detection ≡ t
 
 -- ---- the claim
 
-number-from : {lo hi x : Float} → Between lo hi x → number_from lo hi x ≡ true
-number-from {lo} {hi} {x} b = simp (is_true (le lo x) b.least, is_true (le x hi) b.most)
-
-module _ (g : SubbandSettings) (in_binary32 : InBinary32 g) (e : (start_answer g).refused ≡ accepted) where
+module _ (g : SubbandSettings) (in_binary32 : InBinary32 g.min g.max_l g.max_h) (e : (start_answer g).refused ≡ accepted) where
   start : SubbandErleEstimator
   start = (start_answer g).state
 
   ok : SettingsOk g
+  unfolding start_answer
   ok = settings-ok g in_binary32 e
 
   first : Kept g start

@@ -1,4 +1,4 @@
--- What the sums of a state keep, whatever its limits and its streams: after n of at most 6 points a sum is at most n times 2^100. So
+-- What the sums of a state keep, whatever its limits and its streams are: after n of at most 6 points a sum is at most n times 2^100. So
 -- number 20 lets the state pass.
 use mathlib.Core.Path.{◌≡◌, refl, sym, subst}
 use mathlib.Core.Bool.{Bool, true, false, cond}
@@ -17,15 +17,14 @@ use Rattle.aec3_common.proofs.Bands.{part_length, part-every}
 use Rattle.aec3_common.proofs.Calls.{UpdateOk}
 use Rattle.aec3_common.proofs.Every.{every-at, every-by, every_first}
 use Rattle.aec3_common.proofs.Numbers.{UpTo, Value, no-sum, up-to-within, value-within}
-use Rattle.aec3_common.proofs.Tables.{length-tab, get_or-tab, get_or-tab-first}
+use Rattle.aec3_common.proofs.Tables.{length-tab}
 use Rattle.erle_bands.specs.Band.{Sums, fresh_sums, added, Streams, fresh_streams, Onset, fresh_onset}
 use Rattle.erle_bands.proofs.Range.{SumsUpTo, added-up-to}
 use Rattle.subband_erle_estimator.specs.declared.settings.SubbandSettings.{SubbandSettings}
 use Rattle.subband_erle_estimator.specs.declared.channel.SubbandChannel.{SubbandChannel}
 use Rattle.subband_erle_estimator.specs.declared.SubbandErleEstimator.{SubbandErleEstimator}
 use Rattle.subband_erle_estimator.specs.Channel.{sums_at, channel_from, fresh, Block, all_points, points_with, points_after, sums_after, channel_after}
-use Rattle.subband_erle_estimator.specs.Subband.{settings_refusal, channel_ok, state_ok, started, no_channel, channel_at, block_of, updated}
-use Rattle.subband_erle_estimator.proofs.Judged.{settings-few}
+use Rattle.subband_erle_estimator.specs.Subband.{settings_refusal, channel_ok, state_ok, no_channel, channel_at, block_of}
 use Rattle.subband_erle_estimator.proofs.Parts.{sums-from}
 
 -- ---- a channel
@@ -125,39 +124,12 @@ block-ok {n = n} {capture = capture} {residual = residual} ok ch h =
       residual = λ k l. values-at n residual ok.long_residual ok.residual_ok ch k h l;
     }
 
--- settings that pass, and the sums of each channel
-pub record SumsKept (s : SubbandErleEstimator) : Type 0 where
-  pub settings : settings_refusal s.settings ≡ accepted
-  pub channels : (ch : ℕ) → ch < s.settings.num_capture_channels → ChannelSums (channel_at s ch)
-
-pub started-sums : (g : SubbandSettings) → settings_refusal g ≡ accepted → SumsKept (started g)
-unfolding started
-started-sums g passed =
-    record {
-      settings = passed;
-      channels = λ ch h.
-          subst ChannelSums (sym (get_or-tab 4 (λ c. fresh g.min) ch no_channel (omega (arith, settings-few g (rw passed))))) (fresh-sums g.min);
-    }
-
-pub updated-sums :
-    (s : SubbandErleEstimator) (converged : List Bool) (render capture residual : List Float) → SumsKept s
-    → UpdateOk (state_ok s) s.settings.num_capture_channels converged render capture residual
-    → SumsKept (updated s converged render capture residual)
-unfolding updated
-updated-sums s converged render capture residual sums ok =
-    let g = s.settings in
-    let n = g.num_capture_channels in
-    let next : ℕ → SubbandChannel = λ ch. channel_after g (block_of converged render capture residual ch) (channel_at s ch) in
-    record {
-      settings = sums.settings;
-      channels = λ ch h.
-          subst ChannelSums (sym (get_or-tab-first 4 n next (channel_at s) ch no_channel (settings-few g (rw sums.settings)) h))
-          (after-sums g (block_of converged render capture residual ch) (channel_at s ch) (block-ok ok ch h) (sums.channels ch h));
-    }
-
-pub state-ok : (s : SubbandErleEstimator) → SumsKept s → state_ok s ≡ true
+-- settings that pass, and sums of each channel as they are kept
+pub state-ok :
+    (s : SubbandErleEstimator) → settings_refusal s.settings ≡ accepted
+    → ((ch : ℕ) → ch < s.settings.num_capture_channels → ChannelSums (channel_at s ch)) → state_ok s ≡ true
 unfolding state_ok
-state-ok s sums =
-    rw sums.settings
+state-ok s passed sums =
+    rw passed
     (every_first channel_ok s.settings.num_capture_channels s.channels no_channel
-    (λ ch h. channel-ok (channel_at s ch) (sums.channels ch h)))
+    (λ ch h. channel-ok (channel_at s ch) (sums ch h)))

@@ -95,16 +95,13 @@ impl SubbandChannel {
 
     // Whether number 20 lets the record pass.
     #[tactic(auto, unfolding(crate::specs::Subband::channel_ok))]
-    pub fn ok(self) -> bool
-        ensures { result ≡ channel_ok self }
+    pub fn ok(&self) -> bool
+        ensures { result ≡ channel_ok self.now }
     {
-        let y2 = self.y2;
-        let e2 = self.e2;
-        (self.num_points <= POINTS_TO_ACCUMULATE) & sums_ok(&y2) & sums_ok(&e2)
+        (self.num_points <= POINTS_TO_ACCUMULATE) & sums_ok(&self.y2) & sums_ok(&self.e2)
     }
 
-    // One update of a converged channel. All is changed in place in one record: each further method that takes it and gives
-    // it back is a copy.
+    // One update of a converged channel.
     pub fn update(
         mut self,
         settings: SubbandSettings,
@@ -116,6 +113,16 @@ impl SubbandChannel {
         requires x2_len { (length x2.now ≡ 65) × (length y2.now ≡ 65) × (length e2.now ≡ 65) }
         ensures { result ≡ channel_after settings (record { converged = true; render = x2.now; capture = y2.now; residual = e2.now }) self }
     {
+        self.update_in_place(settings, x2, y2, e2);
+        self
+    }
+
+    // The same of a record that is lent: each method that takes one and gives it back is a copy.
+    pub fn update_in_place(&mut self, settings: SubbandSettings, x2: &[f32], y2: &[f32], e2: &[f32])
+        requires num_points_bound { self.old.num_points ≤ 6 }
+        requires x2_len { (length x2.now ≡ 65) × (length y2.now ≡ 65) × (length e2.now ≡ 65) }
+        ensures { self.new ≡ channel_after settings (record { converged = true; render = x2.now; capture = y2.now; residual = e2.now }) self.old }
+    {
         let anew = self.num_points == POINTS_TO_ACCUMULATE;
         add_powers(&mut self.y2, y2, anew);
         add_powers(&mut self.e2, e2, anew);
@@ -123,7 +130,7 @@ impl SubbandChannel {
         let points = points_with(self.num_points);
         self.num_points = points;
         if points == POINTS_TO_ACCUMULATE {
-            self = self.learnt(settings);
+            *self = self.learnt(settings);
         }
         let on = settings.onset_detection;
         lower_holds(&mut self.hold_counters, on);
@@ -140,12 +147,19 @@ impl SubbandChannel {
         copy_ends(&mut self.erle);
         copy_ends(&mut self.erle_onset_compensated);
         copy_ends(&mut self.erle_unbounded);
-        self
     }
 
     // One update of a channel that stands unconverged.
     pub fn decay(mut self, settings: SubbandSettings) -> SubbandChannel
         ensures { result ≡ channel_after settings unconverged_block self }
+    {
+        self.decay_in_place(settings);
+        self
+    }
+
+    // The same of a record that is lent.
+    pub fn decay_in_place(&mut self, settings: SubbandSettings)
+        ensures { self.new ≡ channel_after settings unconverged_block self.old }
     {
         let on = settings.onset_detection;
         lower_holds(&mut self.hold_counters, on);
@@ -162,7 +176,6 @@ impl SubbandChannel {
         copy_ends(&mut self.erle);
         copy_ends(&mut self.erle_onset_compensated);
         copy_ends(&mut self.erle_unbounded);
-        self
     }
 
     // What the bands learn from the ratios of the sums. Sums and low energy are looked at from copies, so that a compiler can

@@ -63,15 +63,14 @@ impl SubbandErleEstimator {
         }
     }
 
-    // Whether number 20 lets the state pass.
-    fn ok(self) -> bool
-        ensures { result ≡ state_ok self }
+    // Whether number 20 lets the state pass. The state is lent, since one that is handed over by value is copied whole.
+    fn ok(&self) -> bool
+        ensures { result ≡ state_ok self.now }
     {
         let settings = self.settings;
         let mut ok = true;
         for ch in 0..settings.judged_channels() {
-            let c = self.channels[ch];
-            ok = ok & c.ok();
+            ok = ok & self.channels[ch].ok();
         }
         (settings.refusal() == ACCEPTED) & ok
     }
@@ -106,7 +105,7 @@ impl SubbandErleEstimator {
     }
 
     // One block: flags, render, captures and residuals of all channels, each spectrum 65 numbers. 20, 21, 5 and 6 are turned
-    // away. The records are judged here once more, and not by `ok`: handing the state over is a copy of all four.
+    // away.
     pub fn update(
         mut self,
         num_capture_channels: usize,
@@ -119,14 +118,8 @@ impl SubbandErleEstimator {
     {
         let settings = self.settings;
         let count = settings.num_capture_channels;
-        let mut ok = true;
-        for ch in 0..settings.judged_channels() {
-            let c = self.channels[ch];
-            ok = ok & c.ok();
-        }
-        let state_ok = (settings.refusal() == ACCEPTED) & ok;
         let refused = call_refusal(
-            state_ok,
+            self.ok(),
             count,
             num_capture_channels,
             converged_filters,

@@ -13,7 +13,7 @@ use Rattle.erle_estimator.specs.Parts.{subband_settings}
 use Rattle.erle_estimator.specs.Erle.{after_reset}
 use Rattle.trace_records.specs.Frames.{length_in, framed, record_in, frame_length}
 use Rattle.trace_records.specs.Records.{Record, settings, block, reset, unknown, erle_settings}
-use Rattle.trace_records.specs.Judge.{value_refusal, record_refusal, refusal_ahead}
+use Rattle.trace_records.specs.Judge.{content_refusal, record_refusal, refusal_ahead}
 use Rattle.trace_records.proofs.Framing.{framed-room, no-length-framed}
 use Rattle.trace_records.proofs.Judged.{both-passed, unknown-refused}
 use Rattle.trace_state.specs.declared.Trace.{Trace}
@@ -26,7 +26,7 @@ use Rattle.trace_state.specs.Apply.{is_block}
 use Rattle.trace_state.proofs.Running.{due-next}
 use Rattle.trace_state.proofs.Turning.{fed-taken, fed-refused, fed-nothing}
 use Rattle.trace_blocks.proofs.Frames.{Whole, whole_is, lent-ahead, record-ahead}
-use Rattle.trace_blocks.proofs.Moving.{ready-started}
+use Rattle.trace_blocks.proofs.Ready.{ready-started}
 
 -- a state that 20 lets pass is fed
 pub fed-passing :
@@ -66,7 +66,7 @@ pub record Underway (s : List ℕ) (ended : Bool) (from now : Walk) : Type 0 whe
 ready-next :
     (t : Trace) (l : ℕ) (r : Record) → Ready t.estimator → record_refusal (standing_of t) l r ≡ accepted → is_block r ≡ false
     → Ready (next_of t r).estimator
-unfolding next_of is_block after_reset erle_settings value_refusal settings_refusal
+unfolding next_of is_block after_reset erle_settings content_refusal settings_refusal
 ready-next t l (settings x) ready ok other =
     let few = settings-few (subband_settings (erle_settings x)) (eq-eqb _ _ (both-passed (standing_of t) l (settings x) ok).1) in
     ready-started x.startup 0 (erle_settings x) few (λ some. refl)

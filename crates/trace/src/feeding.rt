@@ -32,6 +32,18 @@ fn standing_of(settings: ErleSettings) -> Standing
     }
 }
 
+// Where feeding stops, and why.
+fn stopped(state: Trace, used: usize, at: usize, stop: Stop) -> Fed
+    ensures { result ≡ record { state = state; used = used; at = at; stop = stop } }
+{
+    Fed {
+        state,
+        used,
+        at,
+        stop,
+    }
+}
+
 // A refused record: its line, if that finds room, and the state as it was.
 fn refuse(state: Trace, used: usize, number: u32, out: &mut [u8], at: usize) -> Fed
     ensures value { result ≡ answer_of (refused_end (record { state = state; used = used; out = out.old; at = at }) number) }
@@ -39,19 +51,9 @@ fn refuse(state: Trace, used: usize, number: u32, out: &mut [u8], at: usize) -> 
 {
     let next = put_refused(out, at, number, one_more(state.records));
     if next == at {
-        Fed {
-            state,
-            used,
-            at,
-            stop: Stop::NoRoom,
-        }
+        stopped(state, used, at, Stop::NoRoom)
     } else {
-        Fed {
-            state,
-            used,
-            at: next,
-            stop: Stop::Refused(number),
-        }
+        stopped(state, used, next, Stop::Refused(number))
     }
 }
 
@@ -66,12 +68,7 @@ pub fn feed(t: Trace, input: &[u8], ended: bool, out: &mut [u8], at: usize) -> F
     ensures gives_listing { GivesListing t input.now ended out.old at }
 {
     if !state_ok(t) {
-        return Fed {
-            state: t,
-            used: 0,
-            at,
-            stop: Stop::BadState,
-        };
+        return stopped(t, 0, at, Stop::BadState);
     }
     let mut state = t;
     let mut used = 0;
@@ -82,12 +79,7 @@ pub fn feed(t: Trace, input: &[u8], ended: bool, out: &mut [u8], at: usize) -> F
         used = run.used;
         at = run.at;
         if ran.rows_due > 0 {
-            return Fed {
-                state: ran,
-                used,
-                at,
-                stop: Stop::NoRoom,
-            };
+            return stopped(ran, used, at, Stop::NoRoom);
         }
         let standing = standing_of(ran.estimator.settings);
         let number = refusal_ahead(standing, &input[used..], ended);
@@ -96,12 +88,7 @@ pub fn feed(t: Trace, input: &[u8], ended: bool, out: &mut [u8], at: usize) -> F
         }
         let length = frame_length(&input[used..]);
         if length == 0 {
-            return Fed {
-                state: ran,
-                used,
-                at,
-                stop: Stop::NoRecord,
-            };
+            return stopped(ran, used, at, Stop::NoRecord);
         }
         let start = used + LENGTH_SIZE;
         let end = start + length;

@@ -17,19 +17,22 @@ use Rattle.trace_blocks.specs.Steps.{RowsLeft, rows_written}
 abbrev pub walk_with : Trace → (used : ℕ) → RowsLeft → Walk
 walk_with t used r = record { state = with_rows_due t r.due; used = used; out = r.out; at = r.at }
 
-module _ (s : List ℕ) (ended : Bool) where
-  pub fed-rows :
-      (t : Trace) (used : ℕ) (f : ℕ → Item) → ((ch : ℕ) → ch < channels_of t.estimator → f ch ≡ row_at t.estimator t.band t.blocks ch)
-      → (due : ℕ) → due ≤ channels_of t.estimator → (d : List ℕ) (at : ℕ)
-      → feed_from s ended (walk_with t used (record { out = d; at = at; due = due })) ≡ feed_from s ended (walk_with t used (rows_written f (channels_of t.estimator) due d at))
-  unfolding rows_written
-  fed-rows t used f is zero h d at = refl
-  fed-rows t used f is (suc k) h d at =
-      go (room d at text) refl (fed-rows t used f is k (omega arith) (laid d at text) (at + length text))
-    where
-      n : ℕ
-      n = channels_of t.estimator
+module _ (s : List ℕ) (ended : Bool) (t : Trace) (used : ℕ) where
+  abbrev n : ℕ
+  n = channels_of t.estimator
 
+  -- the rows of the state itself
+  abbrev f : ℕ → Item
+  f = row_at t.estimator t.band t.blocks
+
+  pub fed-rows :
+      (due : ℕ) → due ≤ n → (d : List ℕ) (at : ℕ)
+      → feed_from s ended (walk_with t used (record { out = d; at = at; due = due })) ≡ feed_from s ended (walk_with t used (rows_written f n due d at))
+  unfolding rows_written
+  fed-rows zero h d at = refl
+  fed-rows (suc k) h d at =
+      go (room d at text) refl (fed-rows k (omega arith) (laid d at text) (at + length text))
+    where
       text : List ℕ
       text = line (f (n - suc k))
 
@@ -45,11 +48,10 @@ module _ (s : List ℕ) (ended : Bool) where
           → feed_from s ended w
           ≡ feed_from s ended (walk_with t used (cond fits (rows_written f n k (laid d at text) (at + length text)) (record { out = d; at = at; due = suc k })))
       go true fits later =
-          let own = is (n - suc k) (omega arith) in
           let less : suc k - 1 ≡ k = omega arith in
           let next : feed_from s ended (with_line w (first_due w.state) (with_rows_due w.state (suc k - 1))) ≡ feed_from s ended (walk_with t used behind) =
-          rw (less, own) in
-          fed-row s ended w (omega arith) (rw own at fits) ∙ next ∙ later
+          rw less in
+          fed-row s ended w (omega arith) fits ∙ next ∙ later
       go false fits later = refl
 
 -- the row that finds no room

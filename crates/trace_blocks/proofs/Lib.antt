@@ -1,5 +1,6 @@
-pub mod Frames
+pub mod Ready
 pub mod Due
-pub mod Moving
+pub mod Frames
+pub mod Taking
 pub mod Going
 pub mod AtBlock

@@ -1,5 +1,5 @@
 -- What inner functions of the code promise; no part of the definition.
-use Rattle.std.specs.Prelude.{◌≡◌, Bool, true, false, cond, ◌&&◌, List, ℕ, zero, suc, ◌+◌, ◌-◌, ◌≤◌, ◌<◌, eqb, length, drop, get_or}
+use Rattle.std.specs.Prelude.{◌≡◌, Bool, true, false, cond, ◌&&◌, List, ℕ, zero, suc, ◌+◌, ◌-◌, ◌≤◌, ◌<◌, eqb, Float, length, drop, get_or}
 use Rattle.std.specs.Float.{nan}
 use Rattle.aec3_common.specs.Refusal.{accepted}
 use Rattle.aec3_common.specs.Streams.{erle_of}
@@ -9,13 +9,14 @@ use Rattle.subband_erle_estimator.specs.declared.channel.SubbandChannel.{Subband
 use Rattle.subband_erle_estimator.specs.Subband.{channel_at as Subband·channel_at}
 use Rattle.erle_estimator.specs.declared.ErleEstimator.{ErleEstimator}
 use Rattle.erle_estimator.specs.Parts.{subband_part, fullband_part}
+use Rattle.erle_estimator.specs.Erle.{after_accepted}
 use Rattle.trace_records.specs.Frames.{length_in, framed, record_in}
 use Rattle.trace_records.specs.declared.judge.Standing.{Standing}
-use Rattle.trace_records.specs.Records.{decoded}
-use Rattle.trace_records.specs.Judge.{form_refusal}
-use Rattle.trace_text.specs.Text.{Item, row, line}
+use Rattle.trace_records.specs.Records.{block, block_in, decoded}
+use Rattle.trace_records.specs.Judge.{content_refusal, form_refusal}
+use Rattle.trace_text.specs.Text.{Item, line}
 use Rattle.trace_blocks.specs.declared.rows.ChannelFigures.{ChannelFigures}
-use Rattle.trace_state.specs.Apply.{channels_of, is_block}
+use Rattle.trace_state.specs.Apply.{channels_of, update_in, is_block}
 use Rattle.trace_state.specs.Listing.{record_at, refusal_at}
 use Rattle.trace_state.specs.Feed.{Walk, first_due, finds_room, feed_from}
 
@@ -26,14 +27,6 @@ unfoldable pub figures_of : Bool → ℕ → SubbandChannel → ChannelFigures
 figures_of onset_detection band c =
     let shown = erle_of c.erle c.erle_onset_compensated true onset_detection in
     record { plain = get_or c.erle band nan; compensated = get_or shown band nan; unbounded = get_or c.erle_unbounded band nan }
-
--- where there is no channel
-abbrev pub no_figures : ChannelFigures
-no_figures = record { plain = nan; compensated = nan; unbounded = nan }
-
--- the row of a channel's figures
-unfoldable pub figures_row : ℕ → List ChannelFigures → ℕ → Item
-figures_row number figures ch = let f = get_or figures ch no_figures in row number ch f.plain f.compensated f.unbounded
 
 -- rows written one behind the other, the last `due` of n, for as long as each finds room
 pub record RowsLeft : Type 0 where
@@ -65,6 +58,18 @@ pub record Ready (e : ErleEstimator) : Type 0 where
   pub section : 1 ≤ channels_of e → e.settings.num_sections ≡ 1
   pub points : (ch : ℕ) → ch < channels_of e → (Subband·channel_at (subband_part e) ch).num_points ≤ 6
   pub points_fullband : (ch : ℕ) → ch < channels_of e → (FullBand·channel_at (fullband_part e) ch).instantaneous_erle.num_points ≤ 5
+
+-- what taking a block leaves: the estimator after it, a table, and the number under which its values are turned away, or 0
+pub record AfterBlock : Type 0 where
+  pub estimator : ErleEstimator
+  pub values : List Float
+  pub refused : ℕ
+
+-- its values are judged, and where they pass the estimator is the one after the block
+pub record Taken (e : ErleEstimator) (r : List ℕ) (after : AfterBlock) : Type 0 where
+  pub long : length after.values ≡ 585
+  pub told : after.refused ≡ content_refusal (block (block_in (channels_of e) r))
+  pub state : after.estimator ≡ cond (eqb after.refused accepted) (after_accepted e (update_in (channels_of e) (block_in (channels_of e) r))) e
 
 -- Rows and blocks were taken from one walk to another: both end alike. At the second a row that is due finds no room, or none is due and the
 -- bytes ahead begin with no block that is accepted.

@@ -10,7 +10,7 @@ use Rattle.aec3_common.proofs.Choices.{passed, later-passed, first-of-passed}
 use Rattle.aec3_common.proofs.Ranges.{from-lo, to-hi}
 use Rattle.trace_records.specs.declared.judge.Standing.{Standing}
 use Rattle.trace_records.specs.Records.{BlockRecord, Record, block, reset, unknown}
-use Rattle.trace_records.specs.Judge.{stands, place_refusal, block_length, length_asked, flags_ok, value_refusal, form_refusal, record_refusal}
+use Rattle.trace_records.specs.Judge.{stands, place_refusal, block_length, length_asked, flags_ok, content_refusal, form_refusal, record_refusal}
 
 -- ---- form, and then values
 
@@ -19,14 +19,14 @@ module _ (st : Standing) (l : ℕ) (r : Record) where
   unfolding record_refusal
   form-refused some = rw (ne_eqb (form_refusal st l r) accepted some)
 
-  pub form-passed : form_refusal st l r ≡ accepted → record_refusal st l r ≡ value_refusal r
+  pub form-passed : form_refusal st l r ≡ accepted → record_refusal st l r ≡ content_refusal r
   unfolding record_refusal
   form-passed none = rw (eq-eqb (form_refusal st l r) accepted none)
 
   -- an accepted record is in form, and its values pass
-  pub both-passed : record_refusal st l r ≡ accepted → (form_refusal st l r ≡ accepted) × (value_refusal r ≡ accepted)
+  pub both-passed : record_refusal st l r ≡ accepted → (form_refusal st l r ≡ accepted) × (content_refusal r ≡ accepted)
   unfolding record_refusal
-  both-passed e = first-of-passed (form_refusal st l r) (value_refusal r) e
+  both-passed e = first-of-passed (form_refusal st l r) (content_refusal r) e
 
   -- a record in form is in its place, and has its length and its flags
   pub in-form : form_refusal st l r ≡ accepted → (place_refusal st r ≡ accepted) × (l ≡ length_asked st r) × (flags_ok r ≡ true)

@@ -1,3 +1,4 @@
 pub mod Framing
+pub mod Parts
 pub mod Blocks
 pub mod Judged

@@ -1,9 +1,9 @@
 -- Which number turns a record away, or 0. It is judged by what stands of the trace before it, and by nothing else. Number 10 is judged first, of
 -- the bytes, before there is a record; its rule stands at the end, since it needs that of a record.
-use Rattle.std.specs.Prelude.{ℕ, ◌+◌, ◌*◌, Bool, true, cond, not, ◌&&◌, ◌||◌, List, leb, ltb, eqb, length}
-use Rattle.aec3_common.specs.Calls.{values_in_range}
+use Rattle.std.specs.Prelude.{ℕ, ◌+◌, ◌*◌, Bool, true, cond, not, ◌&&◌, ◌||◌, List, ◌++◌, leb, ltb, eqb, length}
+use Rattle.aec3_common.specs.Calls.{value_refusal}
 use Rattle.aec3_common.specs.Lists.{every}
-use Rattle.aec3_common.specs.Refusal.{unless, first_of, accepted, bad_value, bad_frame, unknown_kind, bad_record_length, bad_flag_or_band, no_settings, second_settings}
+use Rattle.aec3_common.specs.Refusal.{unless, first_of, accepted, bad_frame, unknown_kind, bad_record_length, bad_flag_or_band, no_settings, second_settings}
 use Rattle.aec3_common.specs.Settings.{capture_channels_ok, limits_and_channels_refusal}
 use Rattle.trace_records.specs.declared.judge.Standing.{Standing}
 use Rattle.trace_records.specs.Frames.{length_in, length_ok, framed, record_in}
@@ -64,12 +64,12 @@ flags_ok (block b) = every flag_ok b.flags
 flags_ok (reset delay_flag) = flag_ok delay_flag
 flags_ok unknown = true
 
--- its values: the first of 1 and 2 for settings, 6 for a block, or 0
-unfoldable pub value_refusal : Record → ℕ
-value_refusal (settings s) = limits_and_channels_refusal s.min s.max_l s.max_h s.num_capture_channels
-value_refusal (block b) = unless (values_in_range b.render b.capture b.residual) bad_value accepted
-value_refusal (reset delay_flag) = accepted
-value_refusal unknown = accepted
+-- its content: the first of 1 and 2 for settings, 6 for a block, or 0
+unfoldable pub content_refusal : Record → ℕ
+content_refusal (settings s) = limits_and_channels_refusal s.min s.max_l s.max_h s.num_capture_channels
+content_refusal (block b) = value_refusal (b.render ++ b.capture ++ b.residual)
+content_refusal (reset delay_flag) = accepted
+content_refusal unknown = accepted
 
 -- ---- the judging of a record with such an L
 
@@ -83,7 +83,7 @@ form_refusal st l r =
 
 -- the first of 11, 22 or 23, 12, 13, 1, 2 and 6, or 0
 unfoldable pub record_refusal : Standing → ℕ → Record → ℕ
-record_refusal st l r = first_of (form_refusal st l r) (value_refusal r)
+record_refusal st l r = first_of (form_refusal st l r) (content_refusal r)
 
 -- of a record in bytes
 abbrev pub refusal_in : Standing → List ℕ → ℕ

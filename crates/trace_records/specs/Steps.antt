@@ -1,12 +1,12 @@
 -- What functions of the code promise besides; no part of the definition of a listing.
-use Rattle.std.specs.Prelude.{◌≡◌, ℕ, ◌+◌, ◌*◌, ◌<◌, Bool, false, cond, List, ltb, Float, length, get_or}
+use Rattle.std.specs.Prelude.{◌≡◌, ℕ, ◌+◌, ◌*◌, ◌≤◌, ◌<◌, Bool, false, cond, List, ◌++◌, ltb, Float, length, get_or, take}
 use Rattle.std.specs.Float.{nan}
-use Rattle.aec3_common.specs.Calls.{values_in_range}
+use Rattle.aec3_common.specs.Calls.{value_refusal}
 use Rattle.aec3_common.specs.Lists.{tab}
 use Rattle.trace_records.specs.declared.judge.Standing.{Standing}
 use Rattle.trace_records.specs.declared.records.Decoded.{Decoded}
 use Rattle.trace_records.specs.declared.records.Decoded.TheVariants.{Settings, Block, Reset, Unknown}
-use Rattle.trace_records.specs.Records.{Record, settings, block, reset, unknown, is_set, value_at, converged_byte, render_place, render_in, capture_in, residual_in, block_in}
+use Rattle.trace_records.specs.Records.{Record, settings, block, reset, unknown, is_set, value_at, converged_byte, render_in, capture_in, residual_in, block_in}
 
 -- ---- a record in an enum
 
@@ -23,9 +23,19 @@ record_from st r Unknown = unknown
 unfoldable pub flag_table : ℕ → List ℕ → List Bool
 flag_table n r = tab 4 (λ ch. cond (ltb ch n) (is_set (converged_byte r ch)) false)
 
--- All numbers of a block of n channels stand at the front of a table as they stand in the record: render power, then of each channel
--- capture and residual power. And it is told whether number 6 lets all of them pass.
-pub record BlockRead (n : ℕ) (r : List ℕ) (values : List Float) (ok : Bool) : Type 0 where
+-- The first so many numbers that begin at a place of a record stand in a table from an index on; elsewhere it is as it was.
+pub record NumbersRead (r : List ℕ) (place : ℕ) (before : List Float) (from count : ℕ) (values : List Float) : Type 0 where
   pub long : length values ≡ 585
-  pub each : (k : ℕ) → k < 65 + 130 * n → get_or values k nan ≡ value_at r (render_place n + 4 * k)
-  pub told : ok ≡ values_in_range (render_in n r) (capture_in n r) (residual_in n r)
+  pub own : (k : ℕ) → k < count → get_or values (from + k) nan ≡ value_at r (place + 4 * k)
+  pub under : (k : ℕ) → k < from → get_or values k nan ≡ get_or before k nan
+  pub behind : (k : ℕ) → from + count ≤ k → get_or values k nan ≡ get_or before k nan
+
+-- All numbers of a block of n channels, list by list
+abbrev pub numbers_in : ℕ → List ℕ → List Float
+numbers_in n r = render_in n r ++ capture_in n r ++ residual_in n r
+
+-- stand at the front of a table, and it is told under which number they are turned away, or 0.
+pub record BlockRead (n : ℕ) (r : List ℕ) (values : List Float) (refused : ℕ) : Type 0 where
+  pub long : length values ≡ 585
+  pub front : take (65 + 130 * n) values ≡ numbers_in n r
+  pub told : refused ≡ value_refusal (numbers_in n r)

@@ -2,7 +2,7 @@
 ghost use Rattle.std.specs.Prelude.{◌≡◌, ◌≤◌, length};
 ghost use Rattle.aec3_common.specs.Lists.{every};
 ghost use Rattle.trace_records.specs.Records.{settings as Record·settings, block as Record·block, reset as Record·reset, flags_in, block_in, decoded};
-ghost use Rattle.trace_records.specs.Judge.{nothing_stands, standing_after, block_length, flag_ok, flags_ok, form_refusal, value_refusal, record_refusal, refusal_in, may_go_on, refusal_ahead};
+ghost use Rattle.trace_records.specs.Judge.{nothing_stands, standing_after, block_length, flag_ok, flags_ok, form_refusal, content_refusal, record_refusal, refusal_in, may_go_on, refusal_ahead};
 
 use crate::frames::{LENGTH_SIZE, frame_length, length_of};
 use crate::records::{
@@ -11,8 +11,8 @@ use crate::records::{
 };
 use aec3_common::FFT_LENGTH_BY_2;
 use aec3_common::refusal::{
-    ACCEPTED, BAD_FLAG_OR_BAND, BAD_FRAME, BAD_RECORD_LENGTH, BAD_VALUE, NO_SETTINGS,
-    SECOND_SETTINGS, UNKNOWN_KIND,
+    ACCEPTED, BAD_FLAG_OR_BAND, BAD_FRAME, BAD_RECORD_LENGTH, NO_SETTINGS, SECOND_SETTINGS,
+    UNKNOWN_KIND,
 };
 use aec3_common::settings::{capture_channels_ok, limits_and_channels_refusal};
 use encoding::byte_at;
@@ -130,14 +130,10 @@ fn reset_refusal(standing: Standing, length: usize, delay_flag: u32) -> u32
 fn block_values_refusal(num_capture_channels: usize, record: &[u8]) -> u32
     requires num_capture_channels_bound { num_capture_channels ≤ 4 }
     requires record_len { length «record».now ≡ block_length num_capture_channels }
-    ensures { result ≡ value_refusal (Record·block (block_in num_capture_channels «record».now)) }
+    ensures { result ≡ content_refusal (Record·block (block_in num_capture_channels «record».now)) }
 {
     let mut values = [0.0f32; MOST_VALUES];
-    if read_block(record, num_capture_channels, &mut values) {
-        ACCEPTED
-    } else {
-        BAD_VALUE
-    }
+    read_block(record, num_capture_channels, &mut values)
 }
 
 // Of a block: the first of 22, 12, 13 and 6, or 0.

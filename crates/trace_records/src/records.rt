@@ -6,10 +6,10 @@ ghost use Rattle.encoding.specs.Bytes.{byte_at};
 ghost use Rattle.trace_records.specs.declared.judge.Standing.{Standing};
 ghost use Rattle.trace_records.specs.Records.{is_set, value_at, settings_in, erle_settings, decoded};
 ghost use Rattle.trace_records.specs.Judge.{block_length};
-ghost use Rattle.trace_records.specs.Steps.{record_from, flag_table, BlockRead};
+ghost use Rattle.trace_records.specs.Steps.{record_from, flag_table, NumbersRead, BlockRead};
 
-use aec3_common::ErleSettings;
-use aec3_common::binary32::values_ok;
+use aec3_common::judge::value_refusal;
+use aec3_common::{ErleSettings, FFT_LENGTH_BY_2_PLUS_1};
 use encoding::{byte_at, float_of, half_at, word_at};
 
 const SETTINGS_KIND: u32 = 0x0001;
@@ -135,21 +135,38 @@ fn value_of(b0: u8, b1: u8, b2: u8, b3: u8) -> f32
 // The numbers of a block of four channels.
 pub const MOST_VALUES: usize = 585;
 
-// Reads all numbers of a block into a table, as they stand in the record: render power, then of each channel capture and residual power.
-// Answers whether number 6 lets them pass. The bytes are read here, with no test of where the record ends.
+// Reads the 65 numbers that begin at a place of a record into a table, from an index on. The bytes are read here, with no test of where the record
+// ends.
+fn read_spectrum(record: &[u8], place: usize, values: &mut [f32; MOST_VALUES], from: usize)
+    requires place_in_record { place + 260 ≤ length «record».now }
+    requires from_in_values { (from + 65 ≤ 585) × (length values.old ≡ 585) }
+    ensures { NumbersRead «record».now place values.old from 65 values.new }
+{
+    for k in 0..FFT_LENGTH_BY_2_PLUS_1 {
+        let i = place + 4 * k;
+        values[from + k] = value_of(record[i], record[i + 1], record[i + 2], record[i + 3]);
+    }
+}
+
+// Reads all numbers of a block into a table: render power, then the captures of all channels, then the residuals of all channels. Answers 6 where one
+// of them is out of range, or 0.
 pub fn read_block(
     record: &[u8],
     num_capture_channels: usize,
     values: &mut [f32; MOST_VALUES],
-) -> bool
+) -> u32
     requires { (length «record».now ≡ block_length num_capture_channels) × (num_capture_channels ≤ 4) × (length values.old ≡ 585) }
     ensures { BlockRead num_capture_channels «record».now values.new result }
 {
-    let place = 2 + num_capture_channels;
-    let count = 65 + 130 * num_capture_channels;
-    for k in 0..count {
-        let i = place + 4 * k;
-        values[k] = value_of(record[i], record[i + 1], record[i + 2], record[i + 3]);
+    let render_place = 2 + num_capture_channels;
+    let residuals = 65 + 65 * num_capture_channels;
+    read_spectrum(record, render_place, values, 0);
+    for ch in 0..num_capture_channels {
+        let place = render_place + 260 + 520 * ch;
+        let own = 65 * ch;
+        read_spectrum(record, place, values, 65 + own);
+        read_spectrum(record, place + 260, values, residuals + own);
     }
-    values_ok(&values[..count])
+    let count = 65 + 130 * num_capture_channels;
+    value_refusal(&values[..count])
 }

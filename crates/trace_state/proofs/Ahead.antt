@@ -22,7 +22,7 @@ use Rattle.trace_state.specs.declared.Trace.{Trace}
 use Rattle.trace_state.specs.Apply.{channels_of, standing_of, update_in, next_of, row_at, block_rows, rows_of, due_rows}
 use Rattle.trace_state.specs.Listing.{record_at, refusal_at, refused_at, items_of}
 use Rattle.trace_state.specs.Feed.{with_rows_due, first_due, items_ahead}
-use Rattle.trace_state.proofs.Running.{update-keeps}
+use Rattle.erle_estimator.proofs.Runs.{update-settings}
 
 -- rows that are due change nothing else
 rows_apart : (t : Trace) (due : ℕ) (r : Record) → rows_of (with_rows_due t due) r ≡ rows_of t r
@@ -87,7 +87,7 @@ due_all t all = let none : channels_of t.estimator - t.rows_due ≡ 0 = omega ar
 due-rows : (t : Trace) (l : ℕ) (r : Record) → record_refusal (standing_of t) l r ≡ accepted → due_rows (next_of t r) ≡ rows_of t r
 unfolding rows_of next_of
 due-rows t l (settings x) ok = due-none (next_of t (settings x)) refl
-due-rows t l (block b) ok = due_all (next_of t (block b)) (ap (λ (g : ErleSettings). g.num_capture_channels) (sym (update-keeps t.estimator (update_in (channels_of t.estimator) b))))
+due-rows t l (block b) ok = due_all (next_of t (block b)) (ap (λ (g : ErleSettings). g.num_capture_channels) (sym (update-settings t.estimator (update_in (channels_of t.estimator) b))))
 due-rows t l (reset flag) ok = due-none (next_of t (reset flag)) refl
 due-rows t l unknown ok = absurd (unknown-refused (standing_of t) l ok)
 

@@ -1,27 +1,28 @@
 -- The estimator's own judging adds nothing to the record's.
-use mathlib.Core.Path.{◌≡◌, refl, sym}
+use mathlib.Core.Path.{◌≡◌, refl, sym, ◌∙◌}
 use mathlib.Core.Bool.{true, ◌&&◌, ◌||◌}
-use mathlib.Core.List.{List}
+use mathlib.Core.List.{List, [], ◌∷◌, ◌++◌}
 use Prim.Native.Nat.{ℕ, zero, suc, ◌≤◌}
 use native.Mathlib.Omega.{arith}
 use borrow.Author.Tests.{eq-eqb, ne_eqb, eqb-true, leb-true, le-leb}
 use lib.Dec.{eqb, leb}
 use lib.Ieee.{of_bits, le, lt, eq}
-use Rattle.aec3_common.specs.Binary32.{zero32, greatest_value, within, values_ok}
-use Rattle.aec3_common.specs.Calls.{values_in_range}
+use Rattle.aec3_common.specs.Binary32.{zero32}
+use Rattle.aec3_common.specs.Calls.{value_refusal}
 use Rattle.aec3_common.specs.Lists.{tab, every}
 use Rattle.aec3_common.specs.Refusal.{first_of, accepted}
 use Rattle.aec3_common.specs.Settings.{sections_ok, sectioned_settings_refusal, settings_refusal}
-use Rattle.aec3_common.proofs.Choices.{and_left, and_right, and-true}
+use Rattle.aec3_common.proofs.Choices.{and_left, and_right}
 use Rattle.aec3_common.proofs.Every.{every-by}
+use Rattle.aec3_common.proofs.Values.{accepted-behind, no-values, copies-accepted}
 use Rattle.aec3_common.proofs.Tables.{length-tab, get_or-tab}
 use Rattle.section_echoes.specs.Packed.{total}
 use Rattle.signal_dependent_erle_estimator.specs.SignalDependent.{ring_refusal, responses_ok}
 use Rattle.erle_estimator.specs.declared.ErleEstimator.{ErleEstimator}
-use Rattle.erle_estimator.specs.Erle.{state_ok, lent_lengths_ok, lent_values_ok, update_refusal}
+use Rattle.erle_estimator.specs.Erle.{state_ok, lent_lengths_ok, lent_values, update_refusal}
 use Rattle.trace_records.specs.declared.records.SettingsRecord.{SettingsRecord}
 use Rattle.trace_records.specs.Records.{BlockRecord, settings, block, erle_settings, block_in}
-use Rattle.trace_records.specs.Judge.{value_refusal}
+use Rattle.trace_records.specs.Judge.{content_refusal}
 use Rattle.trace_records.proofs.Blocks.{length-flags, length-render, length-capture, length-residual}
 use Rattle.trace_state.specs.declared.Trace.{Trace}
 use Rattle.trace_state.specs.Apply.{channels_of, trace_ok, update_in}
@@ -32,9 +33,9 @@ first_alone zero = refl
 first_alone (suc n) = rw (ne_eqb (suc n) accepted (λ e. omega arith))
 
 -- a settings record has one section, which number 3 lets pass
-pub start-judged : (s : SettingsRecord) → settings_refusal (erle_settings s) ≡ value_refusal (settings s)
-unfolding settings_refusal sectioned_settings_refusal sections_ok erle_settings value_refusal
-start-judged s = first_alone (value_refusal (settings s))
+pub start-judged : (s : SettingsRecord) → settings_refusal (erle_settings s) ≡ content_refusal (settings s)
+unfolding settings_refusal sectioned_settings_refusal sections_ok erle_settings content_refusal
+start-judged s = first_alone (content_refusal (settings s))
 
 -- no response blocks
 abbrev none : ℕ → ℕ
@@ -45,15 +46,10 @@ unfolding total tab
 total-none zero = refl
 total-none (suc n) = omega (arith, total-none n)
 
--- the ring that is lent holds zeros, which pass
-zero-passes : within greatest_value zero32 ≡ true
-unfolding of_bits le lt eq
-zero-passes = refl
-
-silent : values_ok (tab 65 (λ k. zero32)) ≡ true
-silent =
-    every-by (within greatest_value) (tab 65 (λ k. zero32)) zero32
-    (λ k h. rw (get_or-tab 65 (λ k. zero32) k zero32 (omega (arith, length-tab 65 (λ k. zero32)))) zero-passes)
+-- the ring that is lent holds zeros, which are accepted
+zero-accepted : value_refusal (zero32 ∷ []) ≡ accepted
+unfolding value_refusal every of_bits le lt eq
+zero-accepted = refl
 
 module _ (n : ℕ) (r : List ℕ) where
   abbrev b : BlockRecord
@@ -79,16 +75,18 @@ module _ (n : ℕ) (r : List ℕ) where
           every-by (λ k. leb k filter_length) (tab n none) 0
           (λ k h. rw (get_or-tab n none k 0 (omega (arith, length-tab n none))) (le-leb 0 filter_length (omega arith)))
 
-  -- and only the record's own values can be out of range
-  values_same : lent_values_ok (update_in n b) ≡ values_in_range b.render b.capture b.residual
-  unfolding lent_values_ok update_in every
-  values_same = rw (silent, and-true, and-true)
+  -- and only the record's own values can be turned away
+  values_same : value_refusal (lent_values (update_in n b)) ≡ value_refusal (b.render ++ b.capture ++ b.residual)
+  unfolding lent_values update_in
+  values_same =
+      accepted-behind (b.render ++ b.capture ++ b.residual ++ tab 65 (λ k. zero32)) [] no-values
+      ∙ accepted-behind (b.render ++ b.capture ++ b.residual) (tab 65 (λ k. zero32)) (copies-accepted 65 zero32 zero-accepted)
 
   -- the estimator's judging of a block in form, of a state that number 20 lets pass and that has no headroom: the record's values, no more
   pub update-judged :
       (e : ErleEstimator) → channels_of e ≡ n → state_ok e ≡ true → e.settings.delay_headroom_samples ≡ 0
-      → update_refusal e (update_in n b) ≡ value_refusal (block b)
-  unfolding update_refusal value_refusal update_in ring_refusal
+      → update_refusal e (update_in n b) ≡ content_refusal (block b)
+  unfolding update_refusal content_refusal update_in ring_refusal
   update-judged e count ok flat =
       rw (ok, eq-eqb n (channels_of e) (sym count), flat, lengths-pass e.settings.filter_length_blocks, values_same)
 

@@ -5,19 +5,22 @@ use mathlib.Core.List.{List, [], ◌∷◌}
 use Prim.Native.Nat.{ℕ, ◌≤◌}
 use native.Mathlib.Omega.{arith}
 use borrow.Author.Tests.{eq-eqb, eqb-true, le-leb}
-use lib.Dec.{eqb, ltb}
+use lib.Dec.{eqb}
+use lib.Ieee.{binary32}
+use lib.Ieee.Bits.{of_bits-fits}
 use lib.ListN.{length}
 use Rattle.aec3_common.specs.declared.settings.ErleSettings.{ErleSettings}
-use Rattle.aec3_common.specs.Counts.{one_more}
 use Rattle.aec3_common.specs.Refusal.{accepted}
 use Rattle.aec3_common.specs.Settings.{settings_refusal}
+use Rattle.aec3_common.proofs.Limits.{InBinary32}
 use Rattle.aec3_common.proofs.Ranges.{from-lo}
 use Rattle.erle_estimator.specs.declared.ErleEstimator.{ErleEstimator}
-use Rattle.erle_estimator.specs.Erle.{Update, state_ok, state_refusal, started_with, refused_settings, counted, updated, after_reset, after_accepted, update_refusal, start_answer, update_answer, reset_answer}
+use Rattle.erle_estimator.specs.Erle.{Update, state_ok, state_refusal, started_with, refused_settings, after_reset, after_accepted, update_refusal, start_answer, update_answer, reset_answer}
+use Rattle.erle_estimator.proofs.Runs.{update-settings}
 use Rattle.erle_estimator.proofs.Good.{Good, good-ok, start-good, update-good, reset-good}
 use Rattle.trace_records.specs.declared.judge.Standing.{Standing}
 use Rattle.trace_records.specs.declared.records.SettingsRecord.{SettingsRecord}
-use Rattle.trace_records.specs.Records.{Record, settings, block, reset, unknown, is_set, erle_settings, settings_in, block_in, delay_flag_in, kind_of, settings_kind, block_kind, reset_kind, decoded}
+use Rattle.trace_records.specs.Records.{Record, settings, block, reset, unknown, is_set, erle_settings, settings_in, block_in, delay_flag_in, value_at, kind_of, settings_kind, block_kind, reset_kind, decoded}
 use Rattle.trace_records.specs.Judge.{standing_after, record_refusal}
 use Rattle.trace_records.proofs.Judged.{both-passed, block-ok, reset-stands, unknown-refused}
 use Rattle.trace_state.specs.declared.Trace.{Trace}
@@ -39,16 +42,6 @@ update-state e u ok = rw (eq-eqb (update_refusal e u) accepted ok)
 pub reset-state : (e : ErleEstimator) (delay_change : Bool) → state_ok e ≡ true → (reset_answer e delay_change).state ≡ after_reset e delay_change
 unfolding reset_answer state_refusal
 reset-state e delay_change ok = rw ok
-
--- an update keeps the settings
-either-keeps : (t : Bool) (x y : ErleEstimator) (g : ErleSettings) → x.settings ≡ g → y.settings ≡ g → (cond t x y).settings ≡ g
-either-keeps true x y g p q = p
-either-keeps false x y g p q = q
-
-pub update-keeps : (e : ErleEstimator) (u : Update) → (after_accepted e u).settings ≡ e.settings
-unfolding after_accepted counted updated
-update-keeps e u =
-    either-keeps (ltb (one_more e.blocks_since_reset) e.startup_phase_length_blocks) (counted e) (updated (counted e) u) e.settings refl refl
 
 -- ---- what a run keeps
 
@@ -94,11 +87,17 @@ by-kinds st s P a b c d = go (eqb (kind_of s) settings_kind) (eqb (kind_of s) bl
     go false false true = c
     go false false false = d
 
+-- the limits that a settings record holds are read from bits
+values-held : (s : List ℕ) → let g = erle_settings (settings_in s) in InBinary32 g.min g.max_l g.max_h
+unfolding erle_settings settings_in value_at
+values-held s =
+    record { min_held = of_bits-fits binary32 _; max_l_held = of_bits-fits binary32 _; max_h_held = of_bits-fits binary32 _ }
+
 module _ (t : Trace) (s : List ℕ) where
   abbrev e : ErleEstimator
   e = t.estimator
 
-  abbrev Passes : Record → Type 0
+  abbrev pub Passes : Record → Type 0
   Passes r = record_refusal (standing_of t) (length s) r ≡ accepted
 
   started : (x : SettingsRecord) → Passes (settings x) → settings_refusal (erle_settings x) ≡ accepted
@@ -120,7 +119,7 @@ module _ (t : Trace) (s : List ℕ) where
       of-settings ok =
           let x = settings_in s in
           let fine = started x ok in
-          going (subst Good (start-state x.startup (erle_settings x) fine) (start-good x.startup (erle_settings x) fine)) refl refl
+          going (subst Good (start-state x.startup (erle_settings x) fine) (start-good x.startup (erle_settings x) (values-held s) fine)) refl refl
 
       of-block : Passes (block (block_in (channels_of e) s)) → Sound (after_accepted e (update_in (channels_of e) (block_in (channels_of e) s)))
       of-block ok =
@@ -130,8 +129,8 @@ module _ (t : Trace) (s : List ℕ) where
           let (good, section, flat) = runs sound (block-ok (standing_of t) (length s) b form).some in
           let fine = update-judged (channels_of e) s e refl (good-ok e good) flat ∙ values in
           going (subst Good (update-state e u fine) (update-good e u good))
-          (ap (λ (g : ErleSettings). g.num_sections) (update-keeps e u) ∙ section)
-          (ap (λ (g : ErleSettings). g.delay_headroom_samples) (update-keeps e u) ∙ flat)
+          (ap (λ (g : ErleSettings). g.num_sections) (update-settings e u) ∙ section)
+          (ap (λ (g : ErleSettings). g.delay_headroom_samples) (update-settings e u) ∙ flat)
 
       of-reset : Passes (reset (delay_flag_in s)) → Sound (after_reset e (is_set (delay_flag_in s)))
       of-reset ok =
@@ -144,7 +143,7 @@ module _ (t : Trace) (s : List ℕ) where
   unfolding next_of
   due-next =
       by-kinds (standing_of t) s (λ r. Passes r → (next_of t r).rows_due ≤ channels_of (next_of t r).estimator) (λ ok. omega arith)
-      (λ ok. let same = ap (λ (g : ErleSettings). g.num_capture_channels) (update-keeps e (update_in (channels_of e) (block_in (channels_of e) s))) in omega arith)
+      (λ ok. let same = ap (λ (g : ErleSettings). g.num_capture_channels) (update-settings e (update_in (channels_of e) (block_in (channels_of e) s))) in omega arith)
       (λ ok. omega arith)
       (λ ok. absurd (unknown-refused (standing_of t) (length s) ok))
 
@@ -153,7 +152,7 @@ module _ (t : Trace) (s : List ℕ) where
   unfolding next_of standing_after started_with after_reset erle_settings
   standing-next =
       by-kinds (standing_of t) s (λ r. standing_of (next_of t r) ≡ standing_after (standing_of t) r) refl
-      (ap (λ (g : ErleSettings). record { num_capture_channels = g.num_capture_channels }) (update-keeps e (update_in (channels_of e) (block_in (channels_of e) s))))
+      (ap (λ (g : ErleSettings). record { num_capture_channels = g.num_capture_channels }) (update-settings e (update_in (channels_of e) (block_in (channels_of e) s))))
       refl refl
 
 -- ---- along a trace

@@ -1,5 +1,5 @@
 -- Feeding keeps what a run from the beginning keeps.
-use mathlib.Core.Path.{◌≡◌, refl, sym}
+use mathlib.Core.Path.{◌≡◌, refl}
 use mathlib.Core.Bool.{Bool, true, false, cond}
 use mathlib.Core.List.{List}
 use Prim.Native.Nat.{ℕ, zero, suc, ◌-◌, ◌≤◌, ◌<◌}
@@ -8,14 +8,14 @@ use borrow.Author.Tests.{ltb-true, eqb-true}
 use lib.Dec.{eqb, ltb}
 use lib.ListN.{drop}
 use Rattle.aec3_common.specs.Refusal.{accepted}
-use Rattle.trace_records.specs.Frames.{length_in, framed, record_in}
+use Rattle.trace_records.specs.Frames.{framed, record_in}
 use Rattle.trace_records.specs.Judge.{refusal_ahead}
 use Rattle.trace_text.specs.Text.{Item}
 use Rattle.trace_state.specs.declared.Trace.{Trace}
 use Rattle.trace_state.specs.declared.Stop.TheVariants.{NoRoom, Refused}
-use Rattle.trace_state.specs.Apply.{channels_of, standing_of, beginning, trace_ok, next_of}
-use Rattle.trace_state.specs.Listing.{record_at, refusal_at, refused_at}
-use Rattle.trace_state.specs.Feed.{row_due, taken, turned_away, with_rows_due, first_due, Walk, Stopped, with_line, finds_room, refused_end, turn_by, go_on, turn_of, turns, feed_from, fed}
+use Rattle.trace_state.specs.Apply.{channels_of, standing_of, beginning, trace_ok}
+use Rattle.trace_state.specs.Listing.{refusal_at, refused_at}
+use Rattle.trace_state.specs.Feed.{row_due, with_rows_due, first_due, Walk, Stopped, with_line, finds_room, refused_end, turn_by, go_on, turn_of, turns, feed_from, fed}
 use Rattle.trace_state.proofs.Running.{Sound, sound-ok, sound-beginning, sound-next, due-next}
 use Rattle.trace_state.proofs.Turning.{next-is}
 

@@ -5,11 +5,8 @@ use Rattle.aec3_common.specs.Binary32.{zero32}
 use Rattle.aec3_common.specs.Counts.{one_more}
 use Rattle.aec3_common.specs.Lists.{tab}
 use Rattle.section_echoes.specs.declared.RenderRing.{RenderRing}
-use Rattle.subband_erle_estimator.specs.Subband.{channel_at as Subband·channel_at}
-use Rattle.signal_dependent_erle_estimator.specs.SignalDependent.{channel_at as SignalDependent·channel_at}
 use Rattle.erle_estimator.specs.declared.ErleEstimator.{ErleEstimator}
-use Rattle.erle_estimator.specs.Parts.{subband_part, signal_part}
-use Rattle.erle_estimator.specs.Erle.{Update, state_ok, refused_settings, started_with, after_reset, after_accepted, streams_shown}
+use Rattle.erle_estimator.specs.Erle.{Update, state_ok, refused_settings, started_with, after_reset, after_accepted, streams_of}
 use Rattle.trace_records.specs.declared.judge.Standing.{Standing}
 use Rattle.trace_records.specs.Records.{BlockRecord, Record, settings, block, reset, unknown, is_set, erle_settings}
 use Rattle.trace_text.specs.Text.{Item, row}
@@ -100,7 +97,7 @@ is_block unknown = false
 -- a channel's row: a block's number, the channel, and the figures of a band after the block
 unfoldable pub row_at : ErleEstimator → (band number ch : ℕ) → Item
 row_at e band number ch =
-    let s = streams_shown e.settings (Subband·channel_at (subband_part e) ch) (SignalDependent·channel_at (signal_part e) ch) in
+    let s = streams_of e ch in
     row number ch (get_or s.plain band nan) (get_or s.compensated band nan) (get_or s.unbounded band nan)
 
 -- a row for each channel, after the latest block

@@ -4,30 +4,20 @@ ghost use Rattle.trace_records.specs.Records.{settings as Record·settings, rese
 ghost use Rattle.trace_state.specs.Apply.{beginning as Apply·beginning, trace_ok, next_of, is_block};
 ghost use Rattle.trace_state.specs.Listing.{record_at};
 ghost use Rattle.trace_state.specs.Along.{JudgedAlone};
+ghost use Rattle.trace_state.specs.Range.{RowsInRange};
 
 use crate::Trace;
 use aec3_common::counts::one_more;
-use erle_estimator::{ErleSettings, started_with};
+use erle_estimator::{refused_settings, started_with};
 use trace_records::{Decoded, SettingsRecord, decode, erle_settings};
 
-// Before the first record: the estimator of a refused start.
+// Before the first record: the estimator of a refused start. Whatever bytes follow, 20 lets every state pass, and every printed figure is in range.
 pub fn beginning() -> Trace
     ensures value { result ≡ Apply·beginning }
     ensures judged_alone { JudgedAlone result }
+    ensures rows_in_range { RowsInRange result }
 {
-    let settings = ErleSettings {
-        min: 0.0,
-        max_l: 0.0,
-        max_h: 0.0,
-        onset_detection: false,
-        num_capture_channels: 0,
-        num_sections: 0,
-        filter_length_blocks: 0,
-        delay_headroom_samples: 0,
-        clamp_quality_estimate_to_zero: false,
-        clamp_quality_estimate_to_one: false,
-    };
-    let estimator = started_with(0, 0, settings);
+    let estimator = started_with(0, 0, refused_settings());
     Trace {
         estimator,
         band: 0,

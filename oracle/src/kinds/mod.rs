@@ -71,7 +71,7 @@ impl Groups {
     }
 
     /// Answers one record. A malformed record prints nothing here.
-    fn answer(&mut self, record: &Record<'_>, lines: &mut Lines) -> Result<(), Malformed> {
+    pub fn answer(&mut self, record: &Record<'_>, lines: &mut Lines) -> Result<(), Malformed> {
         match self {
             Self::Replay {
                 leaves,

@@ -22,15 +22,21 @@ impl<P: Part> Standing<P> {
         if record.kind != P::REPEAT {
             return self.answer(record, lines);
         }
-        let mut body = Fields::of(record);
-        let times = body.u32()?;
-        if !TIMES.contains(&times) {
-            return Err(Malformed);
-        }
+        let (times, body) = repeated(record)?;
         self.update(times, body, lines)?;
         self.figures(lines);
         Ok(())
     }
+}
+
+/// How often a repeat asks for its call, and the fields of that.
+pub fn repeated<'a>(record: &Record<'a>) -> Result<(u32, Fields<'a>), Malformed> {
+    let mut body = Fields::of(record);
+    let times = body.u32()?;
+    if !TIMES.contains(&times) {
+        return Err(Malformed);
+    }
+    Ok((times, body))
 }
 
 /// The settings of a start: three limits, some switches, and the capture

@@ -53,48 +53,63 @@ pub trait Estimator: Sized {
 }
 
 /// The estimator that stands, if one does.
-pub struct Standing<E> {
-    estimator: Option<E>,
+pub struct Standing<E: Estimator> {
+    started: Option<Started<E>>,
     /// Whether what is held is shown after the figures.
     state_shown: bool,
 }
 
-impl<E> Default for Standing<E> {
+/// An estimator and the start that was accepted for it.
+pub struct Started<E: Estimator> {
+    pub start: E::Start,
+    pub estimator: E,
+}
+
+impl<E: Estimator> Default for Standing<E> {
     fn default() -> Self {
         Self::new(false)
     }
 }
 
-impl<E> Standing<E> {
+impl<E: Estimator> Standing<E> {
     pub fn new(state_shown: bool) -> Self {
         Self {
-            estimator: None,
+            started: None,
             state_shown,
         }
     }
-}
 
-impl<E: Estimator> Standing<E> {
+    /// What stands.
+    pub fn started(&self) -> Option<&Started<E>> {
+        self.started.as_ref()
+    }
+
     pub fn answer(&mut self, record: &Record<'_>, lines: &mut Lines) -> Result<(), Malformed> {
-        let body = Fields::of(record);
-        match record.kind {
-            kind if kind == E::START => self.start(body, lines)?,
-            kind if kind == E::UPDATE => self.update(1, body, lines)?,
-            kind if kind == E::RESET => self.reset(body, lines)?,
-            _ => return Err(Malformed),
-        }
+        self.call(record, lines)?;
         self.figures(lines);
         Ok(())
     }
 
+    /// Makes the call of a record, with its answer alone.
+    pub fn call(&mut self, record: &Record<'_>, lines: &mut Lines) -> Result<(), Malformed> {
+        let body = Fields::of(record);
+        match record.kind {
+            kind if kind == E::START => self.start(body, lines),
+            kind if kind == E::UPDATE => self.update(1, body, lines),
+            kind if kind == E::RESET => self.reset(body, lines),
+            _ => Err(Malformed),
+        }
+    }
+
     fn start(&mut self, body: Fields<'_>, lines: &mut Lines) -> Result<(), Malformed> {
-        match E::started(&E::Start::read(body)?) {
+        let start = E::Start::read(body)?;
+        match E::started(&start) {
             Ok(estimator) => {
-                self.estimator = Some(estimator);
+                self.started = Some(Started { start, estimator });
                 lines.push(format_args!("{} start", E::NAME));
             }
             Err(refusal) => {
-                self.estimator = None;
+                self.started = None;
                 lines.push(format_args!("{} start {refusal}", E::NAME));
             }
         }
@@ -109,16 +124,16 @@ impl<E: Estimator> Standing<E> {
         lines: &mut Lines,
     ) -> Result<(), Malformed> {
         let call = E::Call::read(body)?;
-        answer_call(E::NAME, "ok", &mut self.estimator, lines, |estimator| {
-            estimator.repeat(times, &call)
+        answer_call(E::NAME, "ok", &mut self.started, lines, |started| {
+            started.estimator.repeat(times, &call)
         });
         Ok(())
     }
 
     fn reset(&mut self, body: Fields<'_>, lines: &mut Lines) -> Result<(), Malformed> {
         let reset = E::Reset::read(body)?;
-        answer_call(E::NAME, "reset", &mut self.estimator, lines, |estimator| {
-            estimator.reset(reset);
+        answer_call(E::NAME, "reset", &mut self.started, lines, |started| {
+            started.estimator.reset(reset);
             Ok(())
         });
         Ok(())
@@ -126,7 +141,7 @@ impl<E: Estimator> Standing<E> {
 
     /// The figures of the estimator that stands.
     pub fn figures(&self, lines: &mut Lines) {
-        if let Some(estimator) = &self.estimator {
+        if let Some(Started { estimator, .. }) = &self.started {
             estimator.figures(lines);
             if self.state_shown {
                 estimator.state(lines);

@@ -72,6 +72,13 @@ impl Name {
     pub fn scripts(&self) -> Vec<Maker> {
         (self.make)()
     }
+
+    /// What one of its scripts is called, by its number from 1, and the words that
+    /// make it.
+    pub fn input(&self, number: usize) -> String {
+        let (input, name) = (self.program.input(), self.name);
+        format!("{input} {number} (oracle generate {name} {number})")
+    }
 }
 
 pub const NAMES: [Name; 20] = [

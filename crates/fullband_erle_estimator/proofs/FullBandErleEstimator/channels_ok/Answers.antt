@@ -11,10 +11,10 @@ loop-ch-init c = tested-none _ _
 
 pub loop-ch-preserved : goal.loop-ch-preserved
 loop-ch-preserved c =
-    let four : length c.args.self.channels ≡ 4 = search (rules, length-mapped) in
+    let four : length c.args.self.now.channels ≡ 4 = search (rules, length-mapped) in
     tested-more no_channel c.loop-ch.invariant (omega arith) c.ok-ok.ensures
 
 pub returns : goal.returns
 returns c =
-    let last : c.loop-ch.ch ≡ c.args.self.settings.num_capture_channels = omega arith in
-    c.loop-ch.invariant.told ∙ ap (λ (n : ℕ). every channel_ok (take n c.args.self.channels)) last
+    let last : c.loop-ch.ch ≡ c.args.self.now.settings.num_capture_channels = omega arith in
+    c.loop-ch.invariant.told ∙ ap (λ (n : ℕ). every channel_ok (take n c.args.self.now.channels)) last

@@ -1,4 +1,5 @@
-use Rattle.std.proofs.Common.{sym, eq-eqb, ne_eqb}
+use Rattle.std.proofs.Common.{sym, eq-eqb, ne_eqb, rules}
+use Rattle.aec3_common.proofs.Rounding.{holds}
 use Rattle.signal_dependent_erle_estimator.specs.SignalDependent.{start_answer}
 use Rattle.signal_dependent_erle_estimator.proofs.Runs.{start-promises}
 use Rattle.signal_dependent_erle_estimator.proofs.SignalDependentErleEstimator.new.Goals as goal
@@ -10,7 +11,15 @@ returns-then-refused-eq-ACCEPTED-clause-value c =
 
 pub returns-then-refused-eq-ACCEPTED-clause-never_bad_state : goal.returns-then-refused-eq-ACCEPTED-clause-never_bad_state
 returns-then-refused-eq-ACCEPTED-clause-never_bad_state c =
-    (start-promises c.args.settings (returns-then-refused-eq-ACCEPTED-clause-value c)).1
+    λ e.
+    (start-promises c.args.settings (record { min_held = holds (search rules); max_l_held = holds (search rules); max_h_held = holds (search rules) })
+    (returns-then-refused-eq-ACCEPTED-clause-value c) e).0
+
+pub returns-then-refused-eq-ACCEPTED-clause-figures_in_range : goal.returns-then-refused-eq-ACCEPTED-clause-figures_in_range
+returns-then-refused-eq-ACCEPTED-clause-figures_in_range c =
+    λ e.
+    (start-promises c.args.settings (record { min_held = holds (search rules); max_l_held = holds (search rules); max_h_held = holds (search rules) })
+    (returns-then-refused-eq-ACCEPTED-clause-value c) e).1
 
 pub returns-else-refused-eq-ACCEPTED-clause-value : goal.returns-else-refused-eq-ACCEPTED-clause-value
 unfolding start_answer

@@ -7,7 +7,7 @@ use Rattle.signal_dependent_erle_estimator.proofs.SignalDependentErleEstimator.o
 
 pub channels_ok-requires : goal.channels_ok-requires
 channels_ok-requires c =
-    let g = c.args.self.settings in
+    let g = c.args.self.now.settings in
     let ok : settings_refusal g ≡ accepted =
     eqb-true (settings_refusal g) accepted (and_left (eqb (settings_refusal g) accepted) _ (sym c.settings_pass.ensures ∙ c.if-settings_pass.true)) in
     (few-captures g ok, eight-sections g ok)

@@ -1,41 +1,96 @@
-use Rattle.std.proofs.Common.{◌≡◌, ◌∙◌, ℕ, Bool, List, sym, eqb, ltb, eqb-true}
+use Rattle.std.proofs.Common.{◌≡◌, ◌∙◌, ℕ, ◌*◌, ◌<◌, Bool, ◌&&◌, List, [], ◌++◌, length, append_assoc, refl, ap, get_or, sym, eqb, eq-eqb, ne_eqb, arith}
 use lib.Ieee.{Float}
-use Rattle.aec3_common.specs.Refusal.{accepted}
-use Rattle.aec3_common.proofs.Choices.{and_left, and_right, cond-neither}
+use Rattle.aec3_common.specs.Calls.{value_refusal}
+use Rattle.aec3_common.specs.Refusal.{accepted, lesser}
+use Rattle.aec3_common.proofs.Values.{value_refusal_append}
+use Rattle.aec3_common.proofs.Choices.{and_assoc}
 use Rattle.signal_dependent_erle_estimator.specs.declared.SignalDependentErleEstimator.{SignalDependentErleEstimator}
-use Rattle.signal_dependent_erle_estimator.specs.SignalDependent.{Update, state_ok, refusal_of, update_refusal, after_accepted, update_answer}
-use Rattle.signal_dependent_erle_estimator.proofs.Judged.{update-passed}
+use Rattle.signal_dependent_erle_estimator.specs.SignalDependent.{Update, powers_of, active_of, state_ok, lent_lengths_ok, all_lengths_ok, lent_values, refusal_by, update_refusal, after_block, update_answer}
+use Rattle.signal_dependent_erle_estimator.specs.Steps.{BlockFits}
+use Rattle.signal_dependent_erle_estimator.proofs.Judged.{UpdatePassed, update-passed}
+use Rattle.signal_dependent_erle_estimator.proofs.Updates.{found-asks, found-at, found-within, block-alone}
+use Rattle.aec3_common.specs.Settings.{headroom_blocks}
+use Rattle.aec3_common.specs.Spectra.{part}
+use Rattle.section_echoes.specs.Steps.{all_active}
 use Rattle.signal_dependent_erle_estimator.proofs.SignalDependentErleEstimator.update.Goals as goal
 
--- the call is judged by the state
+-- the call is judged by the state, and by what is lent and the two streams
 refusal-told :
-    {n : ℕ} {ok : Bool} (s : SignalDependentErleEstimator) (u : Update) (average average_compensated : List Float)
-    → ok ≡ state_ok s → n ≡ refusal_of ok s.settings u average average_compensated
+    {n others : ℕ} {ok long : Bool} (s : SignalDependentErleEstimator) (u : Update) (average average_compensated : List Float)
+    → ok ≡ state_ok s
+    → long ≡ eqb (length average) (u.channels * 65) && eqb (length average_compensated) (u.channels * 65)
+    → others ≡ value_refusal (average ++ average_compensated)
+    → n ≡ refusal_by ok s.settings u (lent_lengths_ok s.settings.filter_length_blocks u && long) (lesser (value_refusal (lent_values u)) others)
     → update_refusal s u average average_compensated ≡ n
-unfolding update_refusal
-refusal-told s u average average_compensated e f = sym (rw e at f)
+unfolding update_refusal all_lengths_ok
+refusal-told s u average average_compensated passes long others e =
+    let lent = lent_lengths_ok s.settings.filter_length_blocks u in
+    let lengths = ap (λ (t : Bool). lent && t) long ∙ sym (and_assoc lent (eqb (length average) (u.channels * 65)) (eqb (length average_compensated) (u.channels * 65))) in
+    let judged = value_refusal_append (lent_values u) (average ++ average_compensated) in
+    let values = ap (lesser (value_refusal (lent_values u))) others ∙ sym judged ∙ ap value_refusal (sym (append_assoc (lent_values u) average average_compensated)) in
+    sym (e ∙ (λ i. refusal_by (passes i) s.settings u (lengths i) (values i)))
 
-pub updated-state-requires-clause-passed : goal.updated-state-requires-clause-passed
-updated-state-requires-clause-passed c =
-    let n : ℕ = c.update_refusal-refused.result in
-    let some = and_left (eqb n accepted) (ltb 1 c.args.self.settings.num_sections) c.if-refused-settings.true in
-    update-passed _ _ _ _ (refusal-told c.args.self _ _ _ c.ok.ensures c.update_refusal-refused.ensures ∙ eqb-true n accepted some)
+-- an accepted update, and the active sections that are found
+module _
+    (s : SignalDependentErleEstimator) (u : Update) (average average_compensated : List Float)
+    (ok : UpdatePassed s u average average_compensated)
+    {active : List (List ℕ)}
+    (found :
+    1 < s.settings.num_sections
+    → active ≡ all_active u.ring u.spectra (headroom_blocks s.settings.delay_headroom_samples) s.section_boundaries_blocks s.settings.num_sections u.counts u.responses)
+  where
+    block-fits : BlockFits s u.channels (powers_of u) (λ ch. get_or active ch []) average average_compensated
+    block-fits =
+        record {
+          state = ok.lent.state;
+          count = ok.lent.count;
+          flags = ok.lent.flags;
+          render = ok.lent.render;
+          capture = ok.lent.capture;
+          residual = ok.lent.residual;
+          plain = ok.plain;
+          compensated = ok.compensated;
+          sections = found-within s u ok.lent found;
+        }
 
-pub returns-then-refused-settings : goal.returns-then-refused-settings
-unfolding update_answer after_accepted
-returns-then-refused-settings c =
-    let n : ℕ = c.update_refusal-refused.result in
-    let many = ltb 1 c.args.self.settings.num_sections in
-    simp (
-      c.updated-state.ensures,
-      refusal-told c.args.self _ _ _ c.ok.ensures c.update_refusal-refused.ensures,
-      and_left (eqb n accepted) many c.if-refused-settings.true,
-      and_right (eqb n accepted) many c.if-refused-settings.true,
-    )
+    found-is :
+        after_block s (powers_of u) (λ ch. get_or active ch []) (part average) (part average_compensated)
+        ≡ after_block s (powers_of u) (active_of s u) (part average) (part average_compensated)
+    found-is =
+        block-alone s (powers_of u) (part average) (part average_compensated) (λ many ch h. found-at s u ok.lent found many ch (omega (arith, ok.lent.count)))
 
-pub returns-else-refused-settings : goal.returns-else-refused-settings
-unfolding update_answer after_accepted
-returns-else-refused-settings c =
-    let n : ℕ = c.update_refusal-refused.result in
-    let stays = cond-neither (eqb n accepted) (ltb 1 c.args.self.settings.num_sections) _ c.args.self c.if-refused-settings.false in
-    rw (refusal-told c.args.self _ _ _ c.ok.ensures c.update_refusal-refused.ensures) (λ i. record { state = stays i; refused = n })
+pub active_sections-active-requires : goal.active_sections-active-requires
+active_sections-active-requires c =
+    let told = refusal-told c.args.self _ _ _ c.ok.ensures c.streams_lengths_ok.ensures c.streams_refusal.ensures c.update_refusal-refused.ensures in
+    let ok = update-passed _ _ _ _ (told ∙ c.if-refused-eq-ACCEPTED.true) in
+    record {
+      ring_fits = ok.lent.ring;
+      delay_headroom_samples_bound = found-asks c.args.self _ ok.lent;
+      response_blocks_value = (ok.lent.blocks, ok.lent.responses);
+    }
+
+pub advance-requires : goal.advance-requires
+advance-requires c =
+    let told = refusal-told c.args.self _ _ _ c.ok.ensures c.streams_lengths_ok.ensures c.streams_refusal.ensures c.update_refusal-refused.ensures in
+    let ok = update-passed _ _ _ _ (told ∙ c.if-refused-eq-ACCEPTED.true) in
+    block-fits _ _ _ _ ok c.active_sections-active.ensures
+
+pub returns-then-refused-eq-ACCEPTED : goal.returns-then-refused-eq-ACCEPTED
+unfolding update_answer
+returns-then-refused-eq-ACCEPTED c =
+    let told = refusal-told c.args.self _ _ _ c.ok.ensures c.streams_lengths_ok.ensures c.streams_refusal.ensures c.update_refusal-refused.ensures in
+    let ok = update-passed _ _ _ _ (told ∙ c.if-refused-eq-ACCEPTED.true) in
+    simp (told, eq-eqb _ _ c.if-refused-eq-ACCEPTED.true, c.advance.ensures ∙ found-is _ _ _ _ ok c.active_sections-active.ensures)
+
+-- a refused update leaves the state
+refused-stays :
+    {n : ℕ} (s : SignalDependentErleEstimator) (u : Update) (average average_compensated : List Float)
+    → update_refusal s u average average_compensated ≡ n → (n ≡ accepted → ⊥) → record { state = s; refused = n } ≡ update_answer s u average average_compensated
+unfolding update_answer
+refused-stays s u average average_compensated told some = rw (told, ne_eqb _ _ some) refl
+
+pub returns-else-refused-eq-ACCEPTED : goal.returns-else-refused-eq-ACCEPTED
+returns-else-refused-eq-ACCEPTED c =
+    refused-stays c.args.self _ _ _
+    (refusal-told c.args.self _ _ _ c.ok.ensures c.streams_lengths_ok.ensures c.streams_refusal.ensures c.update_refusal-refused.ensures)
+    c.if-refused-eq-ACCEPTED.false

@@ -10,7 +10,7 @@ pub returns-then-refused-eq-ACCEPTED-clause-range_and_rest : goal.returns-then-r
 unfolding start_answer
 returns-then-refused-eq-ACCEPTED-clause-range_and_rest c =
     λ calls e.
-    figures-in-range-and-at-rest c.args.settings (record { min = holds (search rules); max_l = holds (search rules); max_h = holds (search rules) })
+    figures-in-range-and-at-rest c.args.settings (record { min_held = holds (search rules); max_l_held = holds (search rules); max_h_held = holds (search rules) })
     (sym c.refusal-refused.ensures ∙ e) calls
 
 pub returns-then-refused-eq-ACCEPTED-clause-never_bad_state : goal.returns-then-refused-eq-ACCEPTED-clause-never_bad_state
@@ -18,4 +18,6 @@ unfolding start_answer
 returns-then-refused-eq-ACCEPTED-clause-never_bad_state c =
     λ e.
     let accept = sym c.refusal-refused.ensures ∙ e in
-    rw c.started-state.ensures (simp (eq-eqb _ _ accept) at (never-bad-state c.args.settings accept))
+    rw c.started-state.ensures
+    (simp (eq-eqb _ _ accept) at
+    (never-bad-state c.args.settings (record { min_held = holds (search rules); max_l_held = holds (search rules); max_h_held = holds (search rules) }) accept))

@@ -6,7 +6,7 @@ use Rattle.trace_state.specs.Feed.{Stopped, Walk}
 use Rattle.trace_state.proofs.Judged.{due-few}
 use Rattle.trace_state.proofs.Turning.{fed-full}
 use Rattle.trace_state.proofs.Listed.{gives-listing}
-use Rattle.trace_blocks.proofs.Moving.{ready-passing}
+use Rattle.trace_blocks.proofs.Ready.{ready-passing}
 use Rattle.trace.specs.declared.feeding.Fed.{Fed}
 use Rattle.trace.specs.Answers.{answer_of, feed_answer, feed_over}
 use Rattle.trace.proofs.Underway.{Underway, fed-bad, refused-used, underway-ran, ends_so, ends-refused, ends-cut, ends-within, no-block-lent, underway-next}
@@ -19,7 +19,7 @@ pub returns-then-not-state_ok-clause-value : goal.returns-then-not-state_ok-clau
 unfolding feed_answer
 returns-then-not-state_ok-clause-value c =
     let a = c.args in
-    ap answer_of (sym (fed-bad a.t a.input.now a.ended a.out.now a.at (sym c.state_ok.ensures ∙ c.if-not-state_ok.true)))
+    c.stopped.ensures ∙ ap answer_of (sym (fed-bad a.t a.input.now a.ended a.out.now a.at (sym c.state_ok.ensures ∙ c.if-not-state_ok.true)))
 
 pub returns-then-not-state_ok-clause-out_after : goal.returns-then-not-state_ok-clause-out_after
 unfolding feed_over
@@ -67,7 +67,7 @@ pub returns-then-ran-gt0-clause-value : goal.returns-then-ran-gt0-clause-value
 unfolding feed_answer
 returns-then-ran-gt0-clause-value c =
     let ran = (goal.at.returns-then-ran-gt0-clause-value c).After-run_blocks-run in
-    ap answer_of (sym (ends_so (passes ran) (underway ran) (fed-full _ _ _ c.if-ran-gt0.true (c.run_blocks-run.ensures.full c.if-ran-gt0.true))))
+    c.stopped-then-ran-gt0.ensures ∙ ap answer_of (sym (ends_so (passes ran) (underway ran) (fed-full _ _ _ c.if-ran-gt0.true (c.run_blocks-run.ensures.full c.if-ran-gt0.true))))
 
 pub returns-then-ran-gt0-clause-out_after : goal.returns-then-ran-gt0-clause-out_after
 unfolding feed_over
@@ -109,7 +109,7 @@ unfolding feed_answer
 returns-then-length-eq0-clause-value c =
     let ran = (goal.at.returns-then-length-eq0-clause-value c).After-run_blocks-run in
     let asked = (goal.at.returns-then-length-eq0-clause-value c).After-refusal_ahead-number in
-    ap answer_of (sym (ends-cut (passes ran) (underway ran) c.if-ran-gt0.false (number-is asked) c.if-number-ne-ACCEPTED.false c.frame_length-length.ensures c.if-length-eq0.true))
+    c.stopped-then-length-eq0.ensures ∙ ap answer_of (sym (ends-cut (passes ran) (underway ran) c.if-ran-gt0.false (number-is asked) c.if-number-ne-ACCEPTED.false c.frame_length-length.ensures c.if-length-eq0.true))
 
 pub returns-then-length-eq0-clause-out_after : goal.returns-then-length-eq0-clause-out_after
 unfolding feed_over

@@ -1,5 +1,5 @@
 -- A line has one byte at least, so the place stays exactly where there is no room.
-use Rattle.std.proofs.Common.{sym, ◌∙◌}
+use Rattle.std.proofs.Common.{refl, sym, ◌∙◌}
 use Rattle.encoding.specs.Text.{written, after}
 use Rattle.trace_text.specs.Text.{line}
 use Rattle.trace_text.proofs.Lines.{line-some}
@@ -15,7 +15,7 @@ returns-then-next-at-clause-value c =
     let item = refused_at a.state a.number in
     let place = rw c.one_more.ensures at c.put_refused-next.ensures.value in
     let none = room-none a.out.now a.at (line item) (line-some item) (sym place ∙ c.if-next-at.true) in
-    sym (rw none)
+    c.stopped.ensures ∙ sym (rw none)
 
 pub returns-then-next-at-clause-out_after : goal.returns-then-next-at-clause-out_after
 unfolding refused_end written
@@ -34,7 +34,7 @@ returns-else-next-at-clause-value c =
     let item = refused_at a.state a.number in
     let place = rw c.one_more.ensures at c.put_refused-next.ensures.value in
     let some = room-some a.out.now a.at (line item) (λ q. c.if-next-at.false (place ∙ q)) in
-    rw (place, some)
+    c.stopped-else-next-at.ensures ∙ rw (place, some) refl
 
 pub returns-else-next-at-clause-out_after : goal.returns-else-next-at-clause-out_after
 unfolding refused_end written

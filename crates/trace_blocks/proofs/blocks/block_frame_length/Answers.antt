@@ -20,27 +20,27 @@ slice_bounds-record-end c = (whole_is _ c.frame_length-length.ensures c.if-lengt
 pub returns-then-block_form_refusal-eq-ACCEPTED : goal.returns-then-block_form_refusal-eq-ACCEPTED
 returns-then-block_form_refusal-eq-ACCEPTED c =
     let w = whole_is _ c.frame_length-length.ensures c.if-length-eq0.false in
-    frame-by _ _ w (c.in-Block.ensures c.args.standing) c.block_form_refusal.ensures true (eq-eqb _ _ c.if-block_form_refusal-eq-ACCEPTED.true)
+    frame-by _ _ w (c.in-Block.ensures (record { num_capture_channels = c.args.num_capture_channels })) c.block_form_refusal.ensures true (eq-eqb _ _ c.if-block_form_refusal-eq-ACCEPTED.true)
 
 pub returns-else-block_form_refusal-eq-ACCEPTED : goal.returns-else-block_form_refusal-eq-ACCEPTED
 returns-else-block_form_refusal-eq-ACCEPTED c =
     let w = whole_is _ c.frame_length-length.ensures c.if-length-eq0.false in
-    frame-by _ _ w (c.in-Block.ensures c.args.standing) c.block_form_refusal.ensures false (ne_eqb _ _ c.if-block_form_refusal-eq-ACCEPTED.false)
+    frame-by _ _ w (c.in-Block.ensures (record { num_capture_channels = c.args.num_capture_channels })) c.block_form_refusal.ensures false (ne_eqb _ _ c.if-block_form_refusal-eq-ACCEPTED.false)
 
 pub returns-in-Settings : goal.returns-in-Settings
 unfolding record_from is_block
 returns-in-Settings c =
     let w = whole_is _ c.frame_length-length.ensures c.if-length-eq0.false in
-    frame-other _ _ w c.decode-decoded.result (c.decode-decoded.ensures c.args.standing) (rw c.in-Settings.is)
+    frame-other _ _ w c.decode-decoded.result (c.decode-decoded.ensures (record { num_capture_channels = c.args.num_capture_channels })) (rw c.in-Settings.is)
 
 pub returns-in-Reset : goal.returns-in-Reset
 unfolding record_from is_block
 returns-in-Reset c =
     let w = whole_is _ c.frame_length-length.ensures c.if-length-eq0.false in
-    frame-other _ _ w c.decode-decoded.result (c.decode-decoded.ensures c.args.standing) (rw c.in-Reset.is)
+    frame-other _ _ w c.decode-decoded.result (c.decode-decoded.ensures (record { num_capture_channels = c.args.num_capture_channels })) (rw c.in-Reset.is)
 
 pub returns-in-Unknown : goal.returns-in-Unknown
 unfolding record_from is_block
 returns-in-Unknown c =
     let w = whole_is _ c.frame_length-length.ensures c.if-length-eq0.false in
-    frame-other _ _ w c.decode-decoded.result (c.decode-decoded.ensures c.args.standing) (rw c.in-Unknown.is)
+    frame-other _ _ w c.decode-decoded.result (c.decode-decoded.ensures (record { num_capture_channels = c.args.num_capture_channels })) (rw c.in-Unknown.is)

@@ -1,19 +1,19 @@
 use Rattle.std.proofs.Common.{sym}
 use borrow.Author.Tests.{eq-eqb, ne_eqb}
-use Rattle.trace_records.specs.Judge.{place_refusal, length_asked, flags_ok, value_refusal, form_refusal, record_refusal}
+use Rattle.trace_records.specs.Judge.{place_refusal, length_asked, flags_ok, content_refusal, form_refusal, record_refusal}
 use Rattle.trace_records.proofs.judge.settings_refusal.Goals as goal
 
 pub returns-then-capture_channels_ok : goal.returns-then-capture_channels_ok
-unfolding record_refusal form_refusal place_refusal length_asked flags_ok value_refusal
+unfolding record_refusal form_refusal place_refusal length_asked flags_ok content_refusal
 returns-then-capture_channels_ok c = simp (sym c.if-capture_channels_ok.ensures)
 
 pub returns-then-length-ne-SETTINGS_LENGTH : goal.returns-then-length-ne-SETTINGS_LENGTH
-unfolding record_refusal form_refusal place_refusal length_asked flags_ok value_refusal
+unfolding record_refusal form_refusal place_refusal length_asked flags_ok content_refusal
 returns-then-length-ne-SETTINGS_LENGTH c =
     simp (sym c.if-capture_channels_ok.ensures, ne_eqb _ _ c.if-length-ne-SETTINGS_LENGTH.true)
 
 pub returns-then-not-flag_and_band_ok : goal.returns-then-not-flag_and_band_ok
-unfolding record_refusal form_refusal place_refusal length_asked flags_ok value_refusal
+unfolding record_refusal form_refusal place_refusal length_asked flags_ok content_refusal
 returns-then-not-flag_and_band_ok c =
     simp (
       sym c.if-capture_channels_ok.ensures,
@@ -22,7 +22,7 @@ returns-then-not-flag_and_band_ok c =
     )
 
 pub returns-else-not-flag_and_band_ok : goal.returns-else-not-flag_and_band_ok
-unfolding record_refusal form_refusal place_refusal length_asked flags_ok value_refusal
+unfolding record_refusal form_refusal place_refusal length_asked flags_ok content_refusal
 returns-else-not-flag_and_band_ok c =
     simp (
       sym c.if-capture_channels_ok.ensures,

@@ -1,0 +1,7 @@
+-- The loop's invariant: the records before ch are updated, part by part.
+use Rattle.std.proofs.Common.{}
+use Rattle.erle_estimator.proofs.Updates.{MovingByPowers}
+use Rattle.erle_estimator.proofs.ErleEstimator.move_by_powers.Given as goal
+
+abbrev pub invariant-loop-ch : goal.invariant-loop-ch
+invariant-loop-ch l = MovingByPowers l.fn.self l.converged_filters l.x2 l.y2 l.e2 l.self l.ch
