@@ -25,6 +25,10 @@ lengths_ok channels converged render capture residual =
     && length capture == channels * 65
     && length residual == channels * 65
 
+-- number 6, of render, capture and residual power
+abbrev pub values_in_range : List Float → List Float → List Float → Bool
+values_in_range render capture residual = values_ok render && values_ok capture && values_ok residual
+
 -- of all values that a call is lent, one list behind the other: 6, or 0
 unfoldable pub value_refusal : List Float → ℕ
 value_refusal values = unless (values_ok values) bad_value accepted

@@ -1,6 +1,6 @@
 // Which updates of an estimator are turned away.
 ghost use Rattle.std.specs.Prelude.{◌≡◌, ◌++◌};
-ghost use Rattle.aec3_common.specs.Calls.{lengths_ok, value_refusal, call_refusal};
+ghost use Rattle.aec3_common.specs.Calls.{lengths_ok, values_in_range, value_refusal, call_refusal};
 ghost use Rattle.aec3_common.specs.Refusal.{lesser};
 
 use crate::binary32::values_ok;
@@ -15,6 +15,13 @@ pub fn lengths_ok(channels: usize, converged: &[bool], x2: &[f32], y2: &[f32], e
         & (x2.len() == 65)
         & are_spectra(y2.len(), channels)
         & are_spectra(e2.len(), channels)
+}
+
+// Number 6, of the same.
+pub fn all_values_ok(x2: &[f32], y2: &[f32], e2: &[f32]) -> bool
+    ensures { result ≡ values_in_range x2.now y2.now e2.now }
+{
+    values_ok(x2) & values_ok(y2) & values_ok(e2)
 }
 
 // The lesser of two refusals, where 0 is none.

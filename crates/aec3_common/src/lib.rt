@@ -10,7 +10,7 @@ pub mod settings;
 pub mod spectra;
 pub mod streams;
 
-pub use binary32::{clamp, larger, moved, smaller, sums_ok};
+pub use binary32::{clamp, larger, moved, smaller, sums_ok, values_ok};
 pub use log2::{Log2, fast_approx_log2f};
 pub use settings::ErleSettings;
 

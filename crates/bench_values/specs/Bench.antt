@@ -38,7 +38,7 @@ sections_row given n blocks =
 -- band 1 of an ERL estimator, by its bits, after a first block of render 2^26 and capture 0 in every band; 900 is 0x4461_0000
 abbrev pub erl_row : List ℕ → Row
 erl_row given =
-    let a = update_answer (started (record { startup_phase_length_blocks = 0 })) 1 1 (true ∷ []) (tab 65 (λ k. rounded (2 ^ 26))) (tab 65 (λ k. rounded 0)) in
+    let a = update_answer (started 0) 1 1 (true ∷ []) (tab 65 (λ k. rounded (2 ^ 26))) (tab 65 (λ k. rounded 0)) in
     record { given = given; defined = a.refused ∷ to_bits binary32 (get_or a.state.erl 1 nan) ∷ [] }
 
 unfoldable pub table : List Row

@@ -4,7 +4,7 @@
 use aec3_common::log2::rounded;
 use aec3_common::{Log2, fast_approx_log2f};
 use encoding::{bits_of, put_bytes};
-use erl_estimator::{ErlEstimator, ErlSettings};
+use erl_estimator::ErlEstimator;
 use filter_sections::section_boundaries;
 use spectrum_buffer::{Place, offset_index};
 use std::io::Write;
@@ -115,10 +115,7 @@ fn tell_sections(out: &mut [u8], at: usize) -> usize {
 
 // The first inner band after one block of render 2^26 and capture 0.
 fn erl_moves_to(erl: f32) -> bool {
-    let started = ErlEstimator::new(ErlSettings {
-        startup_phase_length_blocks: 0,
-    });
-    let answer = started.update(1, 1, &[true], &[67_108_864.0; 65], &[0.0; 65]);
+    let answer = ErlEstimator::new(0).update(1, 1, &[true], &[67_108_864.0; 65], &[0.0; 65]);
     let state = answer.state;
     (answer.refused == 0) & (state.erl[1] == erl)
 }

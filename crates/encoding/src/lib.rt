@@ -1,5 +1,7 @@
 // How numbers are read from bytes, and how text is written over a lent slice. No public function asks anything of its
 // caller.
+#![tactic(auto)]
+
 pub mod bytes;
 pub mod text;
 

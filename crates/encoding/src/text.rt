@@ -58,6 +58,8 @@ fn hex_digits(n: u32) -> [u8; 8]
     text
 }
 
+const LEAST_OF_TWO_DIGITS: u32 = 10;
+
 // Digits from a place on to the end of a table.
 #[derive(Clone, Copy)]
 struct Digits {
@@ -75,7 +77,7 @@ fn decimal_digits(n: u32) -> Digits
     let mut rest = n;
     text[9] = digit_of(rest % 10);
     while from > 0 {
-        if rest < 10 {
+        if rest < LEAST_OF_TWO_DIGITS {
             return Digits { text, from };
         }
         rest /= 10;

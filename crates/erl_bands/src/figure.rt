@@ -14,6 +14,9 @@ pub const MAX_ERL: f32 = 1000.0;
 
 pub const HOLD_BLOCKS: i32 = 1000;
 
+// From here down a hold has run out.
+const RUN_OUT: i32 = 0;
+
 #[derive(Clone, Copy)]
 pub struct Figure {
     pub erl: f32,
@@ -51,7 +54,7 @@ fn learnt(threshold: f32, render: f32, capture: f32, f: Figure) -> Figure
 pub(crate) fn doubled(hold: i32, erl: f32) -> f32
     ensures { result ≡ Figure·doubled hold erl }
 {
-    if hold <= 0 {
+    if hold <= RUN_OUT {
         smaller(2.0 * erl, MAX_ERL)
     } else {
         erl

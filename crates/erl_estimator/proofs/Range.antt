@@ -28,7 +28,6 @@ use Rattle.aec3_common.proofs.Tables.{get_or-tab}
 use Rattle.erl_bands.specs.declared.figure.Figure.{Figure}
 use Rattle.erl_bands.specs.Figure.{min_erl, max_erl, share, two32, learns, learnt_erl, learnt, doubled, rested, after_block}
 use Rattle.erl_estimator.specs.declared.ErlEstimator.{ErlEstimator}
-use Rattle.erl_estimator.specs.declared.settings.ErlSettings.{ErlSettings}
 use Rattle.erl_estimator.specs.Erl.{band_after, reduced, started, with_count, counted, after_reset, learnt_from, updated, update_refusal, update_answer}
 use Rattle.erl_estimator.specs.Range.{Call, update, reset, after, run, in_range, AllInRange, FiguresInRange}
 
@@ -208,9 +207,9 @@ after-in-range threshold render capture f ok =
 
 -- ---- the whole estimator
 
-started-kept : (settings : ErlSettings) → AllInRange (started settings)
+started-kept : (startup : ℕ) → AllInRange (started startup)
 unfolding started
-started-kept settings =
+started-kept startup =
     record {
       bands = λ k h. ap in_range (get_or-tab 65 (λ j. max_erl) k nan h) ∙ most-in-range;
       time = most-in-range;
@@ -239,7 +238,7 @@ updated-kept :
 unfolding updated
 updated-kept s renders converged render capture kept =
     let same = count_kept s (one_more s.blocks_since_reset) kept in
-    cond_has AllInRange (eqb (length (flagged 0 converged)) 0 || ltb (counted s).blocks_since_reset s.settings.startup_phase_length_blocks)
+    cond_has AllInRange (eqb (length (flagged 0 converged)) 0 || ltb (counted s).blocks_since_reset s.startup_phase_length_blocks)
     (λ e. same)
     (λ e. learnt-kept (counted s) (reduced render (tab renders (λ ch. ch))) (reduced capture (flagged 0 converged)) same)
 
@@ -251,6 +250,6 @@ after_kept s (update captures renders converged render capture) kept =
     (λ e. kept)
 after_kept s reset kept = count_kept s 0 kept
 
-pub figures-in-range : (settings : ErlSettings) → FiguresInRange (started settings)
+pub figures-in-range : (startup : ℕ) → FiguresInRange (started startup)
 unfolding FiguresInRange run
-figures-in-range settings calls = run-keeps AllInRange after after_kept calls (started settings) (started-kept settings)
+figures-in-range startup calls = run-keeps AllInRange after after_kept calls (started startup) (started-kept startup)

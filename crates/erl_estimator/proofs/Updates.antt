@@ -23,13 +23,13 @@ module _ (s : ErlEstimator) (renders : ℕ) (flags : List Bool) (render capture 
     some = ne_eqb (length (first ∷ others)) 0 (λ q. omega arith)
 
     pub updated-below :
-        (counted s).blocks_since_reset < s.settings.startup_phase_length_blocks
+        (counted s).blocks_since_reset < s.startup_phase_length_blocks
         → counted s ≡ updated s renders flags render capture
     unfolding updated
     updated-below h = simp (e, some, lt-ltb _ _ h)
 
     pub updated-on :
-        s.settings.startup_phase_length_blocks ≤ (counted s).blocks_since_reset
+        s.startup_phase_length_blocks ≤ (counted s).blocks_since_reset
         → learnt_from (counted s) (reduced render (tab renders (λ ch. ch))) (reduced capture (first ∷ others))
         ≡ updated s renders flags render capture
     unfolding updated

@@ -12,7 +12,6 @@ use Rattle.erl_bands.specs.declared.figure.Figure.{Figure}
 use Rattle.erl_bands.specs.Figure.{max_erl, after_block}
 use Rattle.erl_estimator.specs.declared.ErlEstimator.{ErlEstimator}
 use Rattle.erl_estimator.specs.declared.ErlUpdate.{ErlUpdate}
-use Rattle.erl_estimator.specs.declared.settings.ErlSettings.{ErlSettings}
 
 -- ---- spectra reduced to their per-band greatest over some channels
 
@@ -27,14 +26,14 @@ reduced spectra channels = tab 65 (greatest_over spectra channels)
 -- ---- the whole estimator
 
 -- a start gives 1,000 and holds 0
-unfoldable pub started : ErlSettings → ErlEstimator
-started settings =
+unfoldable pub started : ℕ → ErlEstimator
+started startup =
     record {
       erl = tab 65 (λ k. max_erl);
       hold_counters = tab 63 (λ k. pos 0);
       erl_time_domain = max_erl;
       hold_counter_time_domain = pos 0;
-      settings = settings;
+      startup_phase_length_blocks = startup;
       blocks_since_reset = 0;
     }
 
@@ -46,7 +45,7 @@ with_count s n =
       hold_counters = s.hold_counters;
       erl_time_domain = s.erl_time_domain;
       hold_counter_time_domain = s.hold_counter_time_domain;
-      settings = s.settings;
+      startup_phase_length_blocks = s.startup_phase_length_blocks;
       blocks_since_reset = n;
     }
 
@@ -76,7 +75,7 @@ learnt_from s render capture =
       hold_counters = tab 63 (λ k. (band (suc k)).hold);
       erl_time_domain = time.erl;
       hold_counter_time_domain = time.hold;
-      settings = s.settings;
+      startup_phase_length_blocks = s.startup_phase_length_blocks;
       blocks_since_reset = s.blocks_since_reset;
     }
 
@@ -85,7 +84,7 @@ learnt_from s render capture =
 unfoldable pub updated : ErlEstimator → ℕ → List Bool → List Float → List Float → ErlEstimator
 updated s renders converged render capture =
     let channels = flagged 0 converged in
-    cond (eqb (length channels) 0 || ltb (counted s).blocks_since_reset s.settings.startup_phase_length_blocks) (counted s)
+    cond (eqb (length channels) 0 || ltb (counted s).blocks_since_reset s.startup_phase_length_blocks) (counted s)
     (learnt_from (counted s) (reduced render (tab renders (λ ch. ch))) (reduced capture channels))
 
 -- ---- calls turned away

@@ -3,7 +3,6 @@
 
 mod judge;
 mod reduce;
-mod settings;
 
 ghost use Rattle.std.specs.Prelude.{◌≡◌, ◌*◌, ◌≤◌, ◌<◌, length};
 ghost use Rattle.erl_estimator.specs.Erl.{started, counted as Erl·counted, after_reset, learnt_from, updated as Erl·updated, update_answer};
@@ -16,7 +15,6 @@ use erl_bands::bands::{moved_erl, moved_holds, new_erls};
 use erl_bands::figure::{Figure, MAX_ERL, time_domain_after};
 use judge::update_refusal;
 use reduce::{FirstConverged, all_reduced, first_converged, reduced_from};
-pub use settings::ErlSettings;
 
 #[derive(Clone, Copy)]
 pub struct ErlEstimator {
@@ -24,7 +22,7 @@ pub struct ErlEstimator {
     pub hold_counters: [i32; 63],
     pub erl_time_domain: f32,
     pub hold_counter_time_domain: i32,
-    pub settings: ErlSettings,
+    pub startup_phase_length_blocks: u32,
     pub blocks_since_reset: u32,
 }
 
@@ -37,8 +35,8 @@ pub struct ErlUpdate {
 
 impl ErlEstimator {
     // A start. No call to it is turned away. After any later calls every ERL is a number from 0.01 to 1,000.
-    pub fn new(settings: ErlSettings) -> ErlEstimator
-        ensures value { result ≡ started settings }
+    pub fn new(startup_phase_length_blocks: u32) -> ErlEstimator
+        ensures value { result ≡ started startup_phase_length_blocks }
         ensures figures_in_range { FiguresInRange result }
     {
         ErlEstimator {
@@ -46,7 +44,7 @@ impl ErlEstimator {
             hold_counters: [0; 63],
             erl_time_domain: MAX_ERL,
             hold_counter_time_domain: 0,
-            settings,
+            startup_phase_length_blocks,
             blocks_since_reset: 0,
         }
     }
@@ -110,7 +108,7 @@ impl ErlEstimator {
         match first_converged(converged) {
             FirstConverged::Nothing => counted,
             FirstConverged::Channel(first) => {
-                if counted.blocks_since_reset < counted.settings.startup_phase_length_blocks {
+                if counted.blocks_since_reset < counted.startup_phase_length_blocks {
                     counted
                 } else {
                     let reduced_render = all_reduced(render, renders);
@@ -147,7 +145,7 @@ impl ErlEstimator {
             hold_counters,
             erl_time_domain: time.erl,
             hold_counter_time_domain: time.hold,
-            settings: self.settings,
+            startup_phase_length_blocks: self.startup_phase_length_blocks,
             blocks_since_reset: self.blocks_since_reset,
         }
     }

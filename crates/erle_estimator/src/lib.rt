@@ -27,7 +27,7 @@ use moves::{fullband_channel, move_subband};
 use parts::signal_settings;
 pub use parts::{fullband_settings, refused_settings, subband_settings};
 pub use section_echoes::RenderRing;
-use signal_dependent_erle_estimator::judge::update_refusal;
+use signal_dependent_erle_estimator::judge::refusal_beside;
 use signal_dependent_erle_estimator::{SignalDependentChannel, active_sections, boundaries_of};
 pub use streams::{ErleStreams, erle_streams};
 use subband_erle_estimator::SubbandChannel;
@@ -263,7 +263,7 @@ impl ErleEstimator {
     {
         let signal_part = signal_settings(self.settings);
         // Besides, nothing is lent: no length is asked, and no value turned away.
-        let refused = update_refusal(
+        let refused = refusal_beside(
             self.ok(),
             signal_part,
             num_capture_channels,

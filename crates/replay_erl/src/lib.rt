@@ -4,7 +4,7 @@
 ghost use Rattle.std.specs.Prelude.{◌<◌};
 
 use encoding::{half_at, put_bytes, word_at};
-use erl_estimator::{ErlEstimator, ErlSettings, ErlUpdate};
+use erl_estimator::{ErlEstimator, ErlUpdate};
 use script::{
     Call, MOST_FLAGS, MOST_FLOATS, bytes_of_floats, flags_in, flags_ok, floats_in, put_bands,
     put_call_line, put_figure,
@@ -31,18 +31,11 @@ struct UpdateCounts {
     capture_floats: u32,
 }
 
-// A start with its startup count.
-fn started(startup: u32) -> ErlEstimator {
-    ErlEstimator::new(ErlSettings {
-        startup_phase_length_blocks: startup,
-    })
-}
-
 // What stands before the first record.
 pub fn no_erl() -> ErlStanding {
     ErlStanding {
         stands: false,
-        erl: started(0),
+        erl: ErlEstimator::new(0),
     }
 }
 
@@ -124,7 +117,7 @@ fn accepted(erl: ErlEstimator) -> ErlUpdate {
 // What a call answers. A start has its startup count, a reset no body.
 fn answer_to(erl: ErlEstimator, record: &[u8]) -> ErlUpdate {
     match call_of(record) {
-        Call::Start => accepted(started(word_at(record, 2))),
+        Call::Start => accepted(ErlEstimator::new(word_at(record, 2))),
         Call::Update => updated(erl, record),
         _ => accepted(erl.reset()),
     }

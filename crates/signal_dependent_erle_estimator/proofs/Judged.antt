@@ -25,7 +25,7 @@ use Rattle.section_echoes.proofs.Packed.{each-at-most}
 use Rattle.signal_dependent_erle_estimator.specs.declared.settings.SignalDependentSettings.{SignalDependentSettings}
 use Rattle.signal_dependent_erle_estimator.specs.declared.SignalDependentErleEstimator.{SignalDependentErleEstimator}
 use Rattle.signal_dependent_erle_estimator.specs.Steps.{Passed}
-use Rattle.signal_dependent_erle_estimator.specs.SignalDependent.{Update, settings_refusal, state_ok, slots_reach, ring_refusal, responses_ok, lent_lengths_ok, all_lengths_ok, lent_values, refusal_by, update_refusal}
+use Rattle.signal_dependent_erle_estimator.specs.SignalDependent.{Update, settings_refusal, state_ok, slots_reach, ring_refusal, responses_ok, lent_lengths_ok, all_lengths_ok, lent_values, refusal_by, refusal_of, update_refusal}
 
 -- ---- settings
 
@@ -169,7 +169,7 @@ pub record UpdatePassed (s : SignalDependentErleEstimator) (u : Update) (average
 pub update-passed :
     (s : SignalDependentErleEstimator) (u : Update) (average average_compensated : List Float)
     → update_refusal s u average average_compensated ≡ accepted → UpdatePassed s u average average_compensated
-unfolding update_refusal all_lengths_ok
+unfolding update_refusal refusal_of all_lengths_ok
 update-passed s u average average_compensated e =
     let most = s.settings.filter_length_blocks in
     let long = all_lengths_ok most u average average_compensated in

@@ -24,7 +24,7 @@ use Rattle.signal_dependent_erle_estimator.specs.declared.channel.SignalDependen
 use Rattle.signal_dependent_erle_estimator.specs.declared.SignalDependentErleEstimator.{SignalDependentErleEstimator}
 use Rattle.signal_dependent_erle_estimator.specs.declared.SignalDependentAnswer.{SignalDependentAnswer}
 use Rattle.signal_dependent_erle_estimator.specs.Channel.{fresh_channel, channel_after}
-use Rattle.signal_dependent_erle_estimator.specs.SignalDependent.{Update, Powers, powers_of, settings_refusal, boundaries_of, same_first, channel_ok, state_ok, state_refusal, lent_values, update_refusal, started, start_answer, reset_answer, no_channel, channel_at, active_of, lent_to, updated, after_block, update_answer}
+use Rattle.signal_dependent_erle_estimator.specs.SignalDependent.{Update, Powers, powers_of, settings_refusal, boundaries_of, same_first, channel_ok, state_ok, state_refusal, lent_values, refusal_of, update_refusal, started, start_answer, reset_answer, no_channel, channel_at, active_of, lent_to, updated, after_block, update_answer}
 use Rattle.signal_dependent_erle_estimator.specs.Runs.{Call, update, reset, answer, run, NeverBadState}
 use Rattle.signal_dependent_erle_estimator.specs.Range.{FiguresInRange}
 use Rattle.signal_dependent_erle_estimator.proofs.Channels.{ChannelKept, LentOk, spectrum-part, fresh_kept, after_kept, channel-in-range}
@@ -150,7 +150,7 @@ module _ (g : SignalDependentSettings) (ok : SettingsOk g) where
 -- ---- never refused under 20
 
 answer-not-20 : (s : SignalDependentErleEstimator) (c : Call) → state_ok s ≡ true → (answer s c).refused ≡ bad_state → ⊥
-unfolding answer update_answer update_refusal reset_answer state_refusal
+unfolding answer update_answer update_refusal refusal_of reset_answer state_refusal
 answer-not-20 s (update u average average_compensated) ok e =
     refusal-not-20 s.settings u _ _ (values-not-20 (lent_values u ++ average ++ average_compensated)) (rw ok at e)
 answer-not-20 s reset ok e = let never : ◌≡◌ {A = ℕ} 0 20 = rw ok at e in omega arith

@@ -139,12 +139,15 @@ abbrev pub refusal_beside : Bool → SignalDependentSettings → Update → (oth
 refusal_beside passes20 g u others_lengths_ok others_refused =
     refusal_by passes20 g u (lent_lengths_ok g.filter_length_blocks u && others_lengths_ok) (lesser (value_refusal (lent_values u)) others_refused)
 
--- a lent average is judged as a spectrum value
-unfoldable pub update_refusal : SignalDependentErleEstimator → Update → List Float → List Float → ℕ
-update_refusal s u average average_compensated =
-    refusal_by (state_ok s) s.settings u
-    (all_lengths_ok s.settings.filter_length_blocks u average average_compensated)
+-- a lent average is judged as a spectrum value; the state is told by whether number 20 lets it pass, and by its settings
+unfoldable pub refusal_of : Bool → SignalDependentSettings → Update → List Float → List Float → ℕ
+refusal_of passes20 g u average average_compensated =
+    refusal_by passes20 g u
+    (all_lengths_ok g.filter_length_blocks u average average_compensated)
     (value_refusal (lent_values u ++ average ++ average_compensated))
+
+unfoldable pub update_refusal : SignalDependentErleEstimator → Update → List Float → List Float → ℕ
+update_refusal s u average average_compensated = refusal_of (state_ok s) s.settings u average average_compensated
 
 -- ---- start, reset, update
 

@@ -4,7 +4,7 @@ ghost use Rattle.aec3_common.specs.Calls.{value_refusal};
 ghost use Rattle.aec3_common.specs.Lists.{every};
 ghost use Rattle.section_echoes.specs.Packed.{total};
 ghost use Rattle.section_echoes.specs.Walk.{slot_length};
-ghost use Rattle.signal_dependent_erle_estimator.specs.SignalDependent.{Update, slots_reach, ring_refusal, responses_ok, lent_lengths_ok, refusal_beside};
+ghost use Rattle.signal_dependent_erle_estimator.specs.SignalDependent.{Update, slots_reach, ring_refusal, responses_ok, lent_lengths_ok, refusal_beside, refusal_of};
 ghost use Rattle.spectrum_buffer.specs.Ring.{max_slots};
 
 use crate::settings::SignalDependentSettings;
@@ -126,11 +126,7 @@ fn lent_values_refusal(
 }
 
 // Number 5, of the subband estimator's two streams.
-pub(crate) fn streams_lengths_ok(
-    channels: usize,
-    average: &[f32],
-    average_compensated: &[f32],
-) -> bool
+fn streams_lengths_ok(channels: usize, average: &[f32], average_compensated: &[f32]) -> bool
     ensures { result ≡ eqb (length average.now) (channels * 65) && eqb (length average_compensated.now) (channels * 65) }
 {
     are_spectra(average.len(), channels) & are_spectra(average_compensated.len(), channels)
@@ -138,7 +134,7 @@ pub(crate) fn streams_lengths_ok(
 
 // Of the values of the two: 6, or 0.
 #[tactic(auto, using(aec3_common::proofs::Values::value_refusal_append))]
-pub(crate) fn streams_refusal(average: &[f32], average_compensated: &[f32]) -> u32
+fn streams_refusal(average: &[f32], average_compensated: &[f32]) -> u32
     ensures { result ≡ value_refusal (average.now ++ average_compensated.now) }
 {
     lesser(value_refusal(average), value_refusal(average_compensated))
@@ -147,7 +143,7 @@ pub(crate) fn streams_refusal(average: &[f32], average_compensated: &[f32]) -> u
 // The first of 20, 21, 2, 4, 9, 5 and 6, or 0, where it is known whether number 20 lets the state pass; and of what the caller is lent
 // besides, whether it has the length that is asked, and under which number its values are turned away.
 #[tactic(auto, unfolding(crate::specs::SignalDependent::lent_values))]
-pub fn update_refusal(
+pub fn refusal_beside(
     state_ok: bool,
     settings: SignalDependentSettings,
     channels: usize,
@@ -194,4 +190,39 @@ pub fn update_refusal(
     } else {
         BAD_LENGTH
     }
+}
+
+// The first of 20, 21, 2, 4, 9, 5 and 6, or 0, where it is known whether number 20 lets the state pass.
+pub fn update_refusal(
+    state_ok: bool,
+    settings: SignalDependentSettings,
+    channels: usize,
+    ring: RenderRing,
+    spectra: &[f32],
+    counts: &[usize],
+    responses: &[f32],
+    x2: &[f32],
+    y2: &[f32],
+    e2: &[f32],
+    average: &[f32],
+    average_compensated: &[f32],
+    converged: &[bool],
+) -> u32
+    ensures { result ≡ refusal_of state_ok settings (record { channels = channels; ring = ring; spectra = spectra.now; counts = counts.now; responses = responses.now; render = x2.now; capture = y2.now; residual = e2.now; converged = converged.now }) average.now average_compensated.now }
+{
+    refusal_beside(
+        state_ok,
+        settings,
+        channels,
+        ring,
+        spectra,
+        counts,
+        responses,
+        x2,
+        y2,
+        e2,
+        converged,
+        streams_lengths_ok(channels, average, average_compensated),
+        streams_refusal(average, average_compensated),
+    )
 }

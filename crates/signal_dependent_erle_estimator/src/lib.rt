@@ -21,7 +21,7 @@ pub use aec3_common::streams::erle;
 pub use channel::SignalDependentChannel;
 use correction_factors::subband_sums;
 use filter_sections::section_boundaries;
-use judge::{streams_lengths_ok, streams_refusal, update_refusal};
+use judge::update_refusal;
 pub use section_echoes::RenderRing;
 pub use sections::active_sections;
 pub use settings::SignalDependentSettings;
@@ -220,9 +220,9 @@ impl SignalDependentErleEstimator {
             x2,
             y2,
             e2,
+            average,
+            average_compensated,
             converged_filters,
-            streams_lengths_ok(num_capture_channels, average, average_compensated),
-            streams_refusal(average, average_compensated),
         );
         if refused == ACCEPTED {
             let active = active_sections(

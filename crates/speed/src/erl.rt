@@ -3,7 +3,7 @@ ghost use Rattle.std.specs.Prelude.{◌*◌, ◌≤◌, length};
 
 use crate::blocks::{flags_of, spectra_of, whole_blocks};
 use crate::figures::erl_sum;
-use erl_estimator::{ErlEstimator, ErlSettings};
+use erl_estimator::ErlEstimator;
 
 // All blocks once.
 fn one_round(
@@ -49,9 +49,7 @@ fn all_rounds(
     requires renders_in_bounds { blocks * (renders * 65) ≤ length render.now }
     requires captures_in_bounds_2 { blocks * (captures * 65) ≤ length capture.now }
 {
-    let mut erl = ErlEstimator::new(ErlSettings {
-        startup_phase_length_blocks: 0,
-    });
+    let mut erl = ErlEstimator::new(0);
     for _ in 0..rounds {
         erl = one_round(erl, captures, renders, flags, render, capture, blocks);
     }

@@ -8,4 +8,5 @@ pub mod listing;
 pub use feeding::{Fed, feed};
 pub use lister::{Lister, print_listing};
 pub use listing::{Listed, list_trace};
+pub use trace_blocks::figure_at;
 pub use trace_state::{Stop, Trace, beginning};

@@ -5,3 +5,4 @@ mod blocks;
 mod rows;
 
 pub use blocks::{Run, run_blocks};
+pub use rows::figure_at;

@@ -24,7 +24,7 @@ pub struct RowsPut {
 }
 
 // The figure of a band; beyond the last there is none, and a NaN stands for it.
-fn figure_at(stream: &[f32], band: usize) -> f32
+pub fn figure_at(stream: &[f32], band: usize) -> f32
     ensures { result ≡ get_or stream.now band nan }
 {
     if band < stream.len() {

@@ -77,7 +77,7 @@ fn converged_flags_ok(record: &[u8], num_capture_channels: usize) -> bool
 }
 
 // Of a settings record with such an L: the first of 23, 12, 13, 1 and 2, or 0.
-fn settings_refusal(standing: Standing, length: usize, settings: SettingsRecord) -> u32
+pub fn settings_refusal(standing: Standing, length: usize, settings: SettingsRecord) -> u32
     ensures { result ≡ record_refusal standing length (Record·settings settings) }
 {
     if capture_channels_ok(standing.num_capture_channels) {
@@ -112,7 +112,7 @@ pub fn block_form_refusal(standing: Standing, record: &[u8]) -> u32
 }
 
 // Of a reset with such an L: the first of 22, 12 and 13, or 0.
-fn reset_refusal(standing: Standing, length: usize, delay_flag: u32) -> u32
+pub fn reset_refusal(standing: Standing, length: usize, delay_flag: u32) -> u32
     ensures { result ≡ record_refusal standing length (Record·reset delay_flag) }
 {
     if !capture_channels_ok(standing.num_capture_channels) {

@@ -10,10 +10,10 @@ loop-from-init c = record { long = refl; within = search rules; whole = rw c.dig
 pub loop-from-preserved : goal.loop-from-preserved
 loop-from-preserved c =
     spelt-more _ _ c.loop-from.invariant c.loop-from-test.true
-    (decimal-last _ _ c.loop-from-test.true c.if-rest-lt10.false ∙ rw c.digit_of-in-loop-from.ensures)
+    (decimal-last _ _ c.loop-from-test.true c.if-rest-lt-LEAST_OF_TWO_DIGITS.false ∙ rw c.digit_of-in-loop-from.ensures)
 
-pub returns-then-rest-lt10-clause-text_value : goal.returns-then-rest-lt10-clause-text_value
-returns-then-rest-lt10-clause-text_value c = spelt-all c.loop-from.invariant (decimal-short _ c.loop-from.rest (omega arith))
+pub returns-then-rest-lt-LEAST_OF_TWO_DIGITS-clause-text_value : goal.returns-then-rest-lt-LEAST_OF_TWO_DIGITS-clause-text_value
+returns-then-rest-lt-LEAST_OF_TWO_DIGITS-clause-text_value c = spelt-all c.loop-from.invariant (decimal-short _ c.loop-from.rest (omega arith))
 
 pub returns-clause-text_value : goal.returns-clause-text_value
 returns-clause-text_value c = spelt-all c.loop-from.invariant (decimal-none _ c.loop-from.rest c.loop-from-test.false)

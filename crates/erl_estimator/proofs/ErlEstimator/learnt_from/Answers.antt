@@ -42,6 +42,6 @@ returns c =
       hold_counters = (held ∙ holds_after render capture s.erl s.hold_counters) i;
       erl_time_domain = (time i).erl;
       hold_counter_time_domain = (to_z-of_z fits-after ∙ ap (λ (f : Figure). f.hold) time) i;
-      settings = s.settings;
+      startup_phase_length_blocks = s.startup_phase_length_blocks;
       blocks_since_reset = s.blocks_since_reset;
     }

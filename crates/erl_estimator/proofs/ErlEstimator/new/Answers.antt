@@ -10,4 +10,4 @@ returns-clause-value c = refl
 
 pub returns-clause-figures_in_range : goal.returns-clause-figures_in_range
 unfolding started tab
-returns-clause-figures_in_range c = figures-in-range c.args.settings
+returns-clause-figures_in_range c = figures-in-range c.args.startup_phase_length_blocks

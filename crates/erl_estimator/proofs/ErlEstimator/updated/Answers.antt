@@ -21,7 +21,7 @@ returns-then-counted c =
     counts
     ∙ updated-below c.args.self c.args.renders c.args.converged.now c.args.render.now c.args.capture.now c.in-Channel.first _
     (from_first c.args.converged.now c.in-Channel.first (sym c.first_converged.ensures ∙ c.in-Channel.is))
-    (subst (λ (s : ErlEstimator). s.blocks_since_reset < s.settings.startup_phase_length_blocks) counts c.if-counted.true)
+    (subst (λ (s : ErlEstimator). s.blocks_since_reset < s.startup_phase_length_blocks) counts c.if-counted.true)
 
 pub returns-else-counted : goal.returns-else-counted
 returns-else-counted c =
@@ -31,4 +31,4 @@ returns-else-counted c =
     ∙ simp (c.all_reduced-reduced_render.ensures, c.reduced_from-reduced_capture.ensures)
     (updated-on c.args.self c.args.renders c.args.converged.now c.args.render.now c.args.capture.now c.in-Channel.first _
     (from_first c.args.converged.now c.in-Channel.first (sym c.first_converged.ensures ∙ c.in-Channel.is))
-    (subst (λ (s : ErlEstimator). s.settings.startup_phase_length_blocks ≤ s.blocks_since_reset) counts c.if-counted.false))
+    (subst (λ (s : ErlEstimator). s.startup_phase_length_blocks ≤ s.blocks_since_reset) counts c.if-counted.false))

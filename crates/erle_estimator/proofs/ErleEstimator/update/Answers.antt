@@ -77,7 +77,7 @@ module _
 
 pub active_sections-active-requires : goal.active_sections-active-requires
 active_sections-active-requires c =
-    let told = refused-by c.args.self _ c.ok.ensures c.signal_settings-signal_part.ensures c.update_refusal-refused.ensures in
+    let told = refused-by c.args.self _ c.ok.ensures c.signal_settings-signal_part.ensures c.refusal_beside-refused.ensures in
     let a = accepted-call _ _ (told ∙ c.if-refused-eq-ACCEPTED.true) in
     record {
       ring_fits = a.lent.ring;
@@ -87,7 +87,7 @@ active_sections-active-requires c =
 
 pub advance-requires : goal.advance-requires
 advance-requires c =
-    let told = refused-by c.args.self _ c.ok.ensures c.signal_settings-signal_part.ensures c.update_refusal-refused.ensures in
+    let told = refused-by c.args.self _ c.ok.ensures c.signal_settings-signal_part.ensures c.refusal_beside-refused.ensures in
     let a = accepted-call _ _ (told ∙ c.if-refused-eq-ACCEPTED.true) in
     record {
       fits = block-fits a c.signal_settings-signal_part.ensures c.active_sections-active.ensures;
@@ -100,7 +100,7 @@ advance-requires c =
 pub returns-then-refused-eq-ACCEPTED : goal.returns-then-refused-eq-ACCEPTED
 unfolding update_answer
 returns-then-refused-eq-ACCEPTED c =
-    let told = refused-by c.args.self _ c.ok.ensures c.signal_settings-signal_part.ensures c.update_refusal-refused.ensures in
+    let told = refused-by c.args.self _ c.ok.ensures c.signal_settings-signal_part.ensures c.refusal_beside-refused.ensures in
     let a = accepted-call _ _ (told ∙ c.if-refused-eq-ACCEPTED.true) in
     simp (
       told,
@@ -111,5 +111,5 @@ returns-then-refused-eq-ACCEPTED c =
 pub returns-else-refused-eq-ACCEPTED : goal.returns-else-refused-eq-ACCEPTED
 unfolding update_answer
 returns-else-refused-eq-ACCEPTED c =
-    let told = refused-by c.args.self _ c.ok.ensures c.signal_settings-signal_part.ensures c.update_refusal-refused.ensures in
+    let told = refused-by c.args.self _ c.ok.ensures c.signal_settings-signal_part.ensures c.refusal_beside-refused.ensures in
     simp (told, ne_eqb _ _ c.if-refused-eq-ACCEPTED.false)

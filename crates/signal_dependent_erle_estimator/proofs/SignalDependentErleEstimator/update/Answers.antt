@@ -1,11 +1,8 @@
-use Rattle.std.proofs.Common.{◌≡◌, ◌∙◌, ℕ, ◌*◌, ◌<◌, Bool, ◌&&◌, List, [], ◌++◌, length, append_assoc, refl, ap, get_or, sym, eqb, eq-eqb, ne_eqb, arith}
+use Rattle.std.proofs.Common.{◌≡◌, ◌∙◌, ℕ, ◌<◌, Bool, List, [], refl, ap, get_or, sym, eq-eqb, ne_eqb, arith}
 use lib.Ieee.{Float}
-use Rattle.aec3_common.specs.Calls.{value_refusal}
-use Rattle.aec3_common.specs.Refusal.{accepted, lesser}
-use Rattle.aec3_common.proofs.Values.{value_refusal_append}
-use Rattle.aec3_common.proofs.Choices.{and_assoc}
+use Rattle.aec3_common.specs.Refusal.{accepted}
 use Rattle.signal_dependent_erle_estimator.specs.declared.SignalDependentErleEstimator.{SignalDependentErleEstimator}
-use Rattle.signal_dependent_erle_estimator.specs.SignalDependent.{Update, powers_of, active_of, state_ok, lent_lengths_ok, all_lengths_ok, lent_values, refusal_by, update_refusal, after_block, update_answer}
+use Rattle.signal_dependent_erle_estimator.specs.SignalDependent.{Update, powers_of, active_of, state_ok, refusal_of, update_refusal, after_block, update_answer}
 use Rattle.signal_dependent_erle_estimator.specs.Steps.{BlockFits}
 use Rattle.signal_dependent_erle_estimator.proofs.Judged.{UpdatePassed, update-passed}
 use Rattle.signal_dependent_erle_estimator.proofs.Updates.{found-asks, found-at, found-within, block-alone}
@@ -14,21 +11,14 @@ use Rattle.aec3_common.specs.Spectra.{part}
 use Rattle.section_echoes.specs.Steps.{all_active}
 use Rattle.signal_dependent_erle_estimator.proofs.SignalDependentErleEstimator.update.Goals as goal
 
--- the call is judged by the state, and by what is lent and the two streams
+-- the call is judged by the state
 refusal-told :
-    {n others : ℕ} {ok long : Bool} (s : SignalDependentErleEstimator) (u : Update) (average average_compensated : List Float)
+    {n : ℕ} {ok : Bool} (s : SignalDependentErleEstimator) (u : Update) (average average_compensated : List Float)
     → ok ≡ state_ok s
-    → long ≡ eqb (length average) (u.channels * 65) && eqb (length average_compensated) (u.channels * 65)
-    → others ≡ value_refusal (average ++ average_compensated)
-    → n ≡ refusal_by ok s.settings u (lent_lengths_ok s.settings.filter_length_blocks u && long) (lesser (value_refusal (lent_values u)) others)
+    → n ≡ refusal_of ok s.settings u average average_compensated
     → update_refusal s u average average_compensated ≡ n
-unfolding update_refusal all_lengths_ok
-refusal-told s u average average_compensated passes long others e =
-    let lent = lent_lengths_ok s.settings.filter_length_blocks u in
-    let lengths = ap (λ (t : Bool). lent && t) long ∙ sym (and_assoc lent (eqb (length average) (u.channels * 65)) (eqb (length average_compensated) (u.channels * 65))) in
-    let judged = value_refusal_append (lent_values u) (average ++ average_compensated) in
-    let values = ap (lesser (value_refusal (lent_values u))) others ∙ sym judged ∙ ap value_refusal (sym (append_assoc (lent_values u) average average_compensated)) in
-    sym (e ∙ (λ i. refusal_by (passes i) s.settings u (lengths i) (values i)))
+unfolding update_refusal
+refusal-told s u average average_compensated passes e = sym (e ∙ ap (λ (t : Bool). refusal_of t s.settings u average average_compensated) passes)
 
 -- an accepted update, and the active sections that are found
 module _
@@ -61,7 +51,7 @@ module _
 
 pub active_sections-active-requires : goal.active_sections-active-requires
 active_sections-active-requires c =
-    let told = refusal-told c.args.self _ _ _ c.ok.ensures c.streams_lengths_ok.ensures c.streams_refusal.ensures c.update_refusal-refused.ensures in
+    let told = refusal-told c.args.self _ _ _ c.ok.ensures c.update_refusal-refused.ensures in
     let ok = update-passed _ _ _ _ (told ∙ c.if-refused-eq-ACCEPTED.true) in
     record {
       ring_fits = ok.lent.ring;
@@ -71,14 +61,14 @@ active_sections-active-requires c =
 
 pub advance-requires : goal.advance-requires
 advance-requires c =
-    let told = refusal-told c.args.self _ _ _ c.ok.ensures c.streams_lengths_ok.ensures c.streams_refusal.ensures c.update_refusal-refused.ensures in
+    let told = refusal-told c.args.self _ _ _ c.ok.ensures c.update_refusal-refused.ensures in
     let ok = update-passed _ _ _ _ (told ∙ c.if-refused-eq-ACCEPTED.true) in
     block-fits _ _ _ _ ok c.active_sections-active.ensures
 
 pub returns-then-refused-eq-ACCEPTED : goal.returns-then-refused-eq-ACCEPTED
 unfolding update_answer
 returns-then-refused-eq-ACCEPTED c =
-    let told = refusal-told c.args.self _ _ _ c.ok.ensures c.streams_lengths_ok.ensures c.streams_refusal.ensures c.update_refusal-refused.ensures in
+    let told = refusal-told c.args.self _ _ _ c.ok.ensures c.update_refusal-refused.ensures in
     let ok = update-passed _ _ _ _ (told ∙ c.if-refused-eq-ACCEPTED.true) in
     simp (told, eq-eqb _ _ c.if-refused-eq-ACCEPTED.true, c.advance.ensures ∙ found-is _ _ _ _ ok c.active_sections-active.ensures)
 
@@ -92,5 +82,5 @@ refused-stays s u average average_compensated told some = rw (told, ne_eqb _ _ s
 pub returns-else-refused-eq-ACCEPTED : goal.returns-else-refused-eq-ACCEPTED
 returns-else-refused-eq-ACCEPTED c =
     refused-stays c.args.self _ _ _
-    (refusal-told c.args.self _ _ _ c.ok.ensures c.streams_lengths_ok.ensures c.streams_refusal.ensures c.update_refusal-refused.ensures)
+    (refusal-told c.args.self _ _ _ c.ok.ensures c.update_refusal-refused.ensures)
     c.if-refused-eq-ACCEPTED.false
