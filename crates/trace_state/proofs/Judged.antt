@@ -102,6 +102,7 @@ unfolding trace_ok
 passing t some ok =
     let e = t.estimator in
     let one = eqb e.settings.num_sections 1 in
-    let later = and_right (leb t.rows_due (channels_of e)) (eqb (channels_of e) 0 || (state_ok e && one)) ok in
-    let both : state_ok e && one ≡ true = rw (ne_eqb (channels_of e) 0 (λ z. omega arith)) at later in
-    (and_left (state_ok e) one both, eqb-true _ _ (and_right (state_ok e) one both))
+    let flat = eqb e.settings.delay_headroom_samples 0 in
+    let later = and_right (leb t.rows_due (channels_of e)) (eqb (channels_of e) 0 || (state_ok e && (one && flat))) ok in
+    let both : state_ok e && (one && flat) ≡ true = rw (ne_eqb (channels_of e) 0 (λ z. omega arith)) at later in
+    (and_left (state_ok e) (one && flat) both, eqb-true _ _ (and_left one flat (and_right (state_ok e) (one && flat) both)))

@@ -56,7 +56,12 @@ pub sound-ok : (t : Trace) → t.rows_due ≤ channels_of t.estimator → Sound 
 unfolding trace_ok
 sound-ok t few (idle none) = rw (le-leb t.rows_due (channels_of t.estimator) few, eq-eqb (channels_of t.estimator) 0 none)
 sound-ok t few (going good section flat) =
-    rw (le-leb t.rows_due (channels_of t.estimator) few, good-ok t.estimator good, eq-eqb t.estimator.settings.num_sections 1 section)
+    rw (
+      le-leb t.rows_due (channels_of t.estimator) few,
+      good-ok t.estimator good,
+      eq-eqb t.estimator.settings.num_sections 1 section,
+      eq-eqb t.estimator.settings.delay_headroom_samples 0 flat,
+    )
     (either (eqb (channels_of t.estimator) 0))
   where
     either : (b : Bool) → b || true ≡ true

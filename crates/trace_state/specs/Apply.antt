@@ -1,6 +1,7 @@
 -- What a record does to the state of a trace, and the rows that it gives.
 use Rattle.std.specs.Prelude.{Bool, true, false, ◌&&◌, ◌||◌, List, [], map, ℕ, ◌-◌, leb, eqb, drop, get_or}
 use Rattle.std.specs.Float.{nan}
+use Rattle.aec3_common.specs.declared.settings.ErleSettings.{ErleSettings}
 use Rattle.aec3_common.specs.Binary32.{zero32}
 use Rattle.aec3_common.specs.Counts.{one_more}
 use Rattle.aec3_common.specs.Lists.{tab}
@@ -26,12 +27,16 @@ beginning = record { estimator = started_with 0 0 refused_settings; band = 0; bl
 
 -- ---- number 20
 
+-- one section and no headroom: settings records start no other estimator
+abbrev pub one_section_no_headroom : ErleSettings → Bool
+one_section_no_headroom g = eqb g.num_sections 1 && eqb g.delay_headroom_samples 0
+
 -- No more rows are due than there are channels. Before settings nothing else is asked. After them 20 lets the estimator pass, and it has one
--- section, as settings records start it.
+-- section and no headroom, as settings records start it.
 unfoldable pub trace_ok : Trace → Bool
 trace_ok t =
     let e = t.estimator in
-    leb t.rows_due (channels_of e) && (eqb (channels_of e) 0 || (state_ok e && eqb e.settings.num_sections 1))
+    leb t.rows_due (channels_of e) && (eqb (channels_of e) 0 || (state_ok e && one_section_no_headroom e.settings))
 
 -- ---- the estimator
 

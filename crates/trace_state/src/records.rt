@@ -38,7 +38,7 @@ pub fn state_ok(t: Trace) -> bool
     } else if settings.num_capture_channels == 0 {
         true
     } else {
-        t.estimator.ok() & (settings.num_sections == 1)
+        t.estimator.ok() & ((settings.num_sections == 1) & (settings.delay_headroom_samples == 0))
     }
 }
 
