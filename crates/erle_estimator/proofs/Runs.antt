@@ -1,21 +1,19 @@
 -- No call of a run from an accepted start is refused under 20, and every figure stays in range.
 use mathlib.Core.Path.{◌≡◌, refl, ◌∙◌, subst}
 use mathlib.Core.List.{List}
-use lib.Dec.{eqb}
 use mathlib.Core.Bool.{true}
 use Prim.Native.Nat.{ℕ}
 use native.Mathlib.Omega.{arith}
 use Rattle.aec3_common.specs.declared.settings.ErleSettings.{ErleSettings}
 use Rattle.aec3_common.specs.Refusal.{accepted, bad_state}
 use Rattle.aec3_common.proofs.Calls.{run-keeps}
-use Rattle.aec3_common.proofs.Choices.{cond_has}
 use Rattle.aec3_common.proofs.Limits.{InBinary32}
 use Rattle.aec3_common.proofs.Values.{values-not-20}
 use Rattle.signal_dependent_erle_estimator.proofs.Judged.{refusal-not-20}
 use Rattle.erle_estimator.specs.declared.ErleEstimator.{ErleEstimator}
 use Rattle.erle_estimator.specs.declared.ErleAnswer.{ErleAnswer}
 use Rattle.erle_estimator.specs.Parts.{signal_settings}
-use Rattle.erle_estimator.specs.Erle.{Update, lent_values, state_ok, state_refusal, update_refusal, started_with, start_answer, after_reset, reset_answer, after_accepted, update_answer}
+use Rattle.erle_estimator.specs.Erle.{Update, lent_values, state_ok, state_refusal, update_refusal, started_with, start_answer, reset_answer, after_accepted, update_answer}
 use Rattle.erle_estimator.specs.Runs.{Call, update, reset, answer, run, NeverBadState}
 use Rattle.erle_estimator.specs.Range.{AllInRange, FiguresInRange}
 use Rattle.erle_estimator.proofs.Range.{all-in-range}

@@ -1,5 +1,5 @@
 -- The range that every figure keeps, over lists of calls.
-use Rattle.std.specs.Prelude.{◌≡◌, true, List, ℕ, ◌<◌, Float, get_or}
+use Rattle.std.specs.Prelude.{◌≡◌, true, List, ℕ, ◌<◌, get_or}
 use Rattle.std.specs.Float.{nan}
 use Rattle.aec3_common.specs.Binary32.{number_from}
 use Rattle.filter_sections.specs.Subbands.{max_erle}
