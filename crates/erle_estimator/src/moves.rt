@@ -27,6 +27,23 @@ pub fn move_subband(
     }
 }
 
+// The same of a record by value.
+pub fn subband_channel(
+    mut c: SubbandChannel,
+    settings: SubbandSettings,
+    converged: bool,
+    x2: &[f32],
+    y2: &[f32],
+    e2: &[f32],
+) -> SubbandChannel
+    requires num_points_bound { c.num_points ≤ 6 }
+    requires x2_len { (length x2.now ≡ 65) × (length y2.now ≡ 65) × (length e2.now ≡ 65) }
+    ensures { result ≡ Subband·channel_after settings (record { converged = converged; render = x2.now; capture = y2.now; residual = e2.now }) c }
+{
+    move_subband(&mut c, settings, converged, x2, y2, e2);
+    c
+}
+
 // A channel that is heard, being converged in a block that is loud enough, accumulates; every hold falls.
 pub fn fullband_channel(
     c: FullBandChannel,

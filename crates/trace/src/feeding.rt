@@ -67,8 +67,7 @@ pub fn feed(t: Trace, input: &[u8], ended: bool, out: &mut [u8], at: usize) -> F
     ensures used_bound { result.used ≤ ListN·length input.now }
     ensures gives_listing { GivesListing t input.now ended out.old at }
 {
-    let passes = state_ok(t);
-    if !passes {
+    if !state_ok(t) {
         return stopped(t, 0, at, Stop::BadState);
     }
     let mut state = t;

@@ -15,24 +15,24 @@ use Rattle.trace.proofs.feeding.feed.Goals as goal
 
 -- ---- a state that 20 turns away
 
-pub returns-then-not-passes-clause-value : goal.returns-then-not-passes-clause-value
+pub returns-then-not-state_ok-clause-value : goal.returns-then-not-state_ok-clause-value
 unfolding feed_answer
-returns-then-not-passes-clause-value c =
+returns-then-not-state_ok-clause-value c =
     let a = c.args in
-    c.stopped.ensures ∙ ap answer_of (sym (fed-bad a.t a.input.now a.ended a.out.now a.at (sym c.state_ok-passes.ensures ∙ c.if-not-passes.true)))
+    c.stopped.ensures ∙ ap answer_of (sym (fed-bad a.t a.input.now a.ended a.out.now a.at (sym c.state_ok.ensures ∙ c.if-not-state_ok.true)))
 
-pub returns-then-not-passes-clause-out_after : goal.returns-then-not-passes-clause-out_after
+pub returns-then-not-state_ok-clause-out_after : goal.returns-then-not-state_ok-clause-out_after
 unfolding feed_over
-returns-then-not-passes-clause-out_after c =
+returns-then-not-state_ok-clause-out_after c =
     let a = c.args in
-    ap (λ (e : Stopped). e.walk.out) (sym (fed-bad a.t a.input.now a.ended a.out.now a.at (sym c.state_ok-passes.ensures ∙ c.if-not-passes.true)))
+    ap (λ (e : Stopped). e.walk.out) (sym (fed-bad a.t a.input.now a.ended a.out.now a.at (sym c.state_ok.ensures ∙ c.if-not-state_ok.true)))
 
-pub returns-then-not-passes-clause-gives_listing : goal.returns-then-not-passes-clause-gives_listing
-returns-then-not-passes-clause-gives_listing c = gives-listing _ _ _ _ _
+pub returns-then-not-state_ok-clause-gives_listing : goal.returns-then-not-state_ok-clause-gives_listing
+returns-then-not-state_ok-clause-gives_listing c = gives-listing _ _ _ _ _
 
 pub loop-ran-init : goal.loop-ran-init
 loop-ran-init c =
-    let ok = sym c.state_ok-passes.ensures ∙ c.if-not-passes.false in
+    let ok = sym c.state_ok.ensures ∙ c.if-not-state_ok.false in
     record {
       same = refl;
       ready = ready-passing c.args.t (search (rules, length-mapped)) (search (rules, length-mapped)) ok;
@@ -44,7 +44,7 @@ loop-ran-init c =
 -- ---- behind rows and blocks
 
 passes : (c : After-run_blocks-run) → trace_ok c.args.t ≡ true
-passes c = sym c.state_ok-passes.ensures ∙ c.if-not-passes.false
+passes c = sym c.state_ok.ensures ∙ c.if-not-state_ok.false
 
 abbrev now : After-run_blocks-run → Walk
 now c =
