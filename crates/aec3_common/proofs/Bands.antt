@@ -1,11 +1,12 @@
 -- Parts of spectra, and bands that copy others.
-use Rattle.std.proofs.Common.{◌≡◌, ℕ, ◌+◌, ◌-◌, ◌*◌, ◌/◌, ◌%◌, ◌<◌, ◌≤◌, Bool, true, false, cond, ◌&&◌, eqb, ltb, leb, List, length, get_or, take, drop, set, sym, refl, ap, ◌∙◌, arith, length-drop, length-set, drop_of_length-le, length-take-le, take_all, get_or-set_other, get_or-set_same, ltb-false, ltb-true, lt-ltb, eq-eqb, eqb-true, leb-false, leb-true}
+use Rattle.std.proofs.Common.{◌≡◌, ℕ, ◌+◌, ◌-◌, ◌*◌, ◌/◌, ◌%◌, ◌^◌, min, ◌<◌, ◌≤◌, Bool, true, false, cond, ◌&&◌, eqb, ltb, leb, List, length, get_or, take, drop, set, sym, refl, ap, ◌∙◌, arith, length-drop, length-set, drop_of_length-le, length-take-le, take_all, get_or-set_other, get_or-set_same, ltb-false, ltb-true, lt-ltb, eq-eqb, eqb-true, leb-false, leb-true}
 use borrow.Author.Tests.{eqb-false}
 use lib.Ieee.{Float, nan}
-use Rattle.aec3_common.specs.Lists.{tab, every}
+use Rattle.std.specs.List.{list_all}
+use Rattle.aec3_common.specs.Lists.{tab}
 use Rattle.aec3_common.specs.Spectra.{part, inner_band, shown_band, ends_copied}
-use Rattle.aec3_common.proofs.Choices.{and_left, and_right, cond_has}
-use Rattle.aec3_common.proofs.Every.{every_take, every_drop}
+use Rattle.aec3_common.proofs.Choices.{and_left, and_right, cond_has, cond-by}
+use Rattle.aec3_common.proofs.Every.{list_all_take, list_all_drop}
 use Rattle.aec3_common.proofs.Tables.{tab-is, tab-same}
 
 -- the part that code lends, from ch * 65 to 65 further on
@@ -61,6 +62,18 @@ module _ (spectra : List Float) (ch from to : ℕ)
           (drop_of_length-le spectra {i = from} (omega arith)
           ∙ sym (drop_of_length-le spectra {i = ch * 65} (omega (arith, leb-false (ch * 65) (length spectra) e))))
 
+-- and where both are made by sums that stop at the greatest usize, which no list is longer than
+pub lent-between :
+    (spectra : List Float) (ch from to : ℕ)
+    → from ≡ min (min (ch * 65) (2 ^ 64 - 1)) (length spectra) → to ≡ min (min (from + 65) (2 ^ 64 - 1)) (length spectra)
+    → length spectra ≤ 2 ^ 64 - 1 → take (to - from) (drop from spectra) ≡ part spectra ch
+lent-between spectra ch from to begins ends few =
+    clamped-part spectra ch from to
+    (cond-by (leb (ch * 65) (length spectra)) from (ch * 65) (length spectra)
+    (λ e. omega (arith, leb-true (ch * 65) (length spectra) e)) (λ e. omega (arith, leb-false (ch * 65) (length spectra) e)))
+    (cond-by (ltb (length spectra - from) 65) to (length spectra) (from + 65)
+    (λ e. omega (arith, ltb-true (length spectra - from) 65 e)) (λ e. omega (arith, ltb-false (length spectra - from) 65 e)))
+
 -- so many numbers are n spectra
 pub spectra-counted : (numbers n : ℕ) → (eqb (numbers % 65) 0 && eqb (numbers / 65) n) ≡ eqb numbers (n * 65)
 spectra-counted numbers n = go (eqb numbers (n * 65)) refl
@@ -82,9 +95,9 @@ unfolding part
 part_length spectra ch h = length-take-le 65 (drop (ch * 65) spectra) (omega (arith, length-drop (ch * 65) spectra))
 
 -- what every value passes, a channel's values do
-pub part-every : (p : Float → Bool) (spectra : List Float) (ch : ℕ) → every p spectra ≡ true → every p (part spectra ch) ≡ true
+pub part-list_all : (p : Float → Bool) (spectra : List Float) (ch : ℕ) → list_all p spectra ≡ true → list_all p (part spectra ch) ≡ true
 unfolding part
-part-every p spectra ch ok = every_take p 65 (drop (ch * 65) spectra) (every_drop p (ch * 65) spectra ok)
+part-list_all p spectra ch ok = list_all_take p 65 (drop (ch * 65) spectra) (list_all_drop p (ch * 65) spectra ok)
 
 -- a band that is shown is an inner band
 pub shown-inner : (k : ℕ) → k < 65 → inner_band (shown_band k) ≡ true

@@ -1,8 +1,7 @@
 -- The claim about cases: number 0, and any other.
-use Rattle.std.proofs.Common.{◌≡◌, ℕ, zero, suc, cond, eqb, List, [], ◌∷◌, refl}
+use Rattle.std.proofs.Common.{◌≡◌, ℕ, zero, suc, cond, eqb, List, [], ◌∷◌, Ok, Err, refl}
 use lib.Dec.{eqb-suc-zero}
 use lib.Ieee.{binary32, to_bits}
-use Rattle.aec3_common.specs.declared.log2.Log2.TheVariants.{Value, Refused}
 use Rattle.aec3_common.specs.Log2.{log2_number, log2_bits}
 use Rattle.aec3_common.specs.Refusal.{accepted}
 use Rattle.aec3_common.specs.Cases.{ReadBack, Log2ReadBack}
@@ -27,4 +26,4 @@ module _ {X A Y : Type 0} (good : X → A) (refused : ℕ → A) (number : A →
 
 pub log2-read-back : Log2ReadBack
 unfolding Log2ReadBack
-log2-read-back = cases-read-back Value Refused log2_number log2_bits (to_bits binary32) (λ x. refl) (λ n. refl) (λ x. refl) (λ n. refl)
+log2-read-back = cases-read-back Ok Err log2_number log2_bits (to_bits binary32) (λ x. refl) (λ n. refl) (λ x. refl) (λ n. refl)

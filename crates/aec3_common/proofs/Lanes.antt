@@ -2,7 +2,7 @@
 use lib.Ieee.{Float, le}
 use Rattle.std.proofs.Common.{◌≡◌, ℕ, ◌%◌, Bool, true, false, ◌&&◌, List, [], ◌∷◌, map, length, cond, nat_eq, refl, ap, ◌∙◌, arith}
 use Rattle.std.specs.Simd.Lanes.{zip2, mask_l, top}
-use Rattle.aec3_common.specs.Lists.{every}
+use Rattle.std.specs.List.{list_all}
 use Rattle.aec3_common.specs.Binary32.{within, zero32}
 
 abbrev lane : Bool → ℕ
@@ -38,23 +38,21 @@ middle-swapped true true false d = refl
 middle-swapped true true true d = refl
 
 -- two tests of every entry are one
-every-both : {A : Type 0} (p q : A → Bool) (xs : List A) → every p xs && every q xs ≡ every (λ x. p x && q x) xs
-unfolding every
-every-both p q [] = refl
-every-both p q (x ∷ xs) = middle-swapped (p x) (every p xs) (q x) (every q xs) ∙ ap (λ (b : Bool). (p x && q x) && b) (every-both p q xs)
+list_all-both : {A : Type 0} (p q : A → Bool) (xs : List A) → list_all p xs && list_all q xs ≡ list_all (λ x. p x && q x) xs
+list_all-both p q [] = refl
+list_all-both p q (x ∷ xs) = middle-swapped (p x) (list_all p xs) (q x) (list_all q xs) ∙ ap (λ (b : Bool). (p x && q x) && b) (list_all-both p q xs)
 
 four-told :
     (hi a b c d : Float)
     → let xs : List Float = a ∷ b ∷ c ∷ d ∷ [] in
-    nat_eq (compared (zero32 ∷ zero32 ∷ zero32 ∷ zero32 ∷ []) xs) 15 && nat_eq (compared xs (hi ∷ hi ∷ hi ∷ hi ∷ [])) 15 ≡ every (within hi) xs
-unfolding every
+    nat_eq (compared (zero32 ∷ zero32 ∷ zero32 ∷ zero32 ∷ []) xs) 15 && nat_eq (compared xs (hi ∷ hi ∷ hi ∷ hi ∷ [])) 15 ≡ list_all (within hi) xs
 four-told hi a b c d =
     rw (four-hold (le zero32 a) (le zero32 b) (le zero32 c) (le zero32 d), four-hold (le a hi) (le b hi) (le c hi) (le d hi))
-    (every-both (λ x. le zero32 x) (λ x. le x hi) (a ∷ b ∷ c ∷ d ∷ []))
+    (list_all-both (λ x. le zero32 x) (λ x. le x hi) (a ∷ b ∷ c ∷ d ∷ []))
 
 pub lanes-told :
     (hi : Float) (xs : List Float) → length xs ≡ 4
-    → nat_eq (compared (zero32 ∷ zero32 ∷ zero32 ∷ zero32 ∷ []) xs) 15 && nat_eq (compared xs (hi ∷ hi ∷ hi ∷ hi ∷ [])) 15 ≡ every (within hi) xs
+    → nat_eq (compared (zero32 ∷ zero32 ∷ zero32 ∷ zero32 ∷ []) xs) 15 && nat_eq (compared xs (hi ∷ hi ∷ hi ∷ hi ∷ [])) 15 ≡ list_all (within hi) xs
 lanes-told hi [] e = absurd (omega (arith, e))
 lanes-told hi (a ∷ []) e = absurd (omega (arith, e))
 lanes-told hi (a ∷ b ∷ []) e = absurd (omega (arith, e))

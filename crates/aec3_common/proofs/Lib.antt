@@ -1,5 +1,6 @@
 pub mod Choices
 pub mod Tables
+pub mod Changes
 pub mod Every
 mod Lanes
 pub mod Constants
@@ -23,3 +24,4 @@ pub mod Sizes
 pub mod SizedMoves
 pub mod Logs
 pub mod Cases
+mod Refusals

@@ -13,7 +13,7 @@ use lib.Ieee.Positive.{positive, le→cross, through}
 use lib.Ieee.Scale.{grid, round_under}
 use lib.Ieee.Scale.{finite as is_finite}
 use Rattle.aec3_common.specs.Binary32.{zero32, greatest_value, greatest_sum, within, values_ok, moved}
-use Rattle.aec3_common.specs.Lists.{every}
+use Rattle.std.specs.List.{list_all}
 use Rattle.aec3_common.specs.Log2.{over, approx_log2}
 use Rattle.aec3_common.specs.Settings.{greatest_erle}
 use Rattle.aec3_common.specs.Spectra.{sum_from}
@@ -154,13 +154,12 @@ no-sum = up_to 0 (pos 0) (lit≤ tt)
 pub sum-up-to :
     (n : ℕ) (xs : List Float) {from : Float} → UpTo (n * 2 ^ 100) from → values_ok xs ≡ true → n + length xs < 2 ^ 24
     → UpTo ((n + length xs) * 2 ^ 100) (sum_from from xs)
-unfolding sum_from every
 sum-up-to n [] u ok few = rw add-zero u
 sum-up-to n (x ∷ xs) {from} u ok few =
-    let first = value-within x (and_left (within greatest_value x) (every (within greatest_value) xs) ok) in
+    let first = value-within x (and_left (within greatest_value x) (list_all (within greatest_value) xs) ok) in
     let whole : Whole (n * 2 ^ 100 + 2 ^ 100) = rw suc-mul at (whole_multiple (suc n) (omega arith)) in
     let more : UpTo (suc n * 2 ^ 100) (add binary32 from x) = rw suc-mul (add-up-to (n * 2 ^ 100) (2 ^ 100) u first whole) in
-    rw (add-suc, ← suc-add) (sum-up-to (suc n) xs more (and_right (within greatest_value x) (every (within greatest_value) xs) ok) (omega arith))
+    rw (add-suc, ← suc-add) (sum-up-to (suc n) xs more (and_right (within greatest_value x) (list_all (within greatest_value) xs) ok) (omega arith))
 
 -- a held sum may be any number up to 2^110
 pub up-to-within : {k : ℕ} {x : Float} → UpTo k x → k ≤ 2 ^ 110 → within greatest_sum x ≡ true

@@ -15,10 +15,8 @@ summed-none xs = record { to = omega arith; rest = refl }
 pub summed-more :
     {xs : List Float} {k : ℕ} {total : Float}
     → Summed xs k total → k < length xs → Summed xs (k + 1) (add binary32 total (get_or xs k nan))
-unfolding sum_from
 summed-more {xs = xs} {k = k} {total = total} s h =
     record { to = omega arith; rest = rw add-one (sym (ap (sum_from total) (drop-cons xs k nan h)) ∙ s.rest) }
 
 pub summed-all : {xs : List Float} {k : ℕ} {total : Float} → Summed xs k total → length xs ≤ k → total ≡ sum xs
-unfolding sum_from
 summed-all {xs = xs} {k = k} {total = total} s h = sym (ap (sum_from total) (drop_of_length-le xs h)) ∙ s.rest

@@ -4,15 +4,15 @@ use Rattle.std.proofs.lemmas.Bool.Decides.{nat_tests}
 use lib.Ieee.{Float}
 use Rattle.aec3_common.specs.Binary32.{greatest_value, within, values_ok}
 use Rattle.aec3_common.specs.Calls.{value_refusal}
-use Rattle.aec3_common.specs.Lists.{tab, every}
+use Rattle.aec3_common.specs.Lists.{tab}
 use Rattle.aec3_common.specs.Refusal.{unless, accepted, bad_state, lesser}
 use Rattle.aec3_common.proofs.Choices.{passed}
-use Rattle.aec3_common.proofs.Every.{every-append}
+use Rattle.aec3_common.proofs.Every.{list_all-append}
 
 -- the refusal of two lists is the lesser of their refusals
 pub value_refusal_append : (xs ys : List Float) → value_refusal (xs ++ ys) ≡ lesser (value_refusal xs) (value_refusal ys)
 unfolding value_refusal lesser
-value_refusal_append xs ys = rw (every-append (within greatest_value) xs ys) (go (values_ok xs) (values_ok ys))
+value_refusal_append xs ys = rw (list_all-append (within greatest_value) xs ys) (go (values_ok xs) (values_ok ys))
   where
     go : (a b : Bool) → unless (a && b) 6 0 ≡ lesser (unless a 6 0) (unless b 6 0)
     go true b = refl
@@ -40,7 +40,7 @@ accepted-behind xs ys e = value_refusal_append xs ys ∙ ap (lesser (value_refus
 
 -- no values are accepted
 pub no-values : value_refusal [] ≡ accepted
-unfolding value_refusal every
+unfolding value_refusal
 no-values = refl
 
 -- and as many copies of one value as there may be, where it is

@@ -2,7 +2,7 @@
 use Rattle.std.specs.Prelude.{Bool, true, false, cond, ◌&&◌, List, from_bits, Float}
 use Rattle.std.specs.Float.{nan, inf, fin, binary32}
 use Rattle.std.specs.Float.Ieee.{add, sub, mul, lt, le}
-use Rattle.aec3_common.specs.Lists.{every}
+use Rattle.std.specs.List.{list_all}
 
 -- plus zero
 abbrev pub zero32 : Float
@@ -60,8 +60,8 @@ within hi x = number_from zero32 hi x
 
 -- number 6: every spectrum or response value lies in 0 to 2^100
 abbrev pub values_ok : List Float → Bool
-values_ok xs = every (within greatest_value) xs
+values_ok xs = list_all (within greatest_value) xs
 
 -- every held sum lies in 0 to 2^110
 abbrev pub sums_ok : List Float → Bool
-sums_ok xs = every (within greatest_sum) xs
+sums_ok xs = list_all (within greatest_sum) xs

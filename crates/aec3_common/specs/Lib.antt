@@ -1,5 +1,6 @@
 pub mod Lists
 pub mod Refusal
+pub mod Answers
 pub mod Binary32
 pub mod Counts
 pub mod Spectra
@@ -9,3 +10,5 @@ pub mod Calls
 pub mod Constants
 pub mod Streams
 pub mod Cases
+pub mod Blocks
+pub mod Steps

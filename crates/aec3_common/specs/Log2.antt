@@ -1,9 +1,8 @@
 -- Log2, by the bits of its input.
-use Rattle.std.specs.Prelude.{ℕ, false, cond, List, [], ◌∷◌, pos, neg_ℤ, ◌==◌, to_bits, Float}
+use Rattle.std.specs.Prelude.{ℕ, false, List, [], ◌∷◌, pos, neg_ℤ, to_bits, Float, Result, Ok, Err}
 use Rattle.std.specs.Float.{fin, binary32}
 use Rattle.std.specs.Float.Ieee.{of_int, mul, sub, lt}
-use Rattle.aec3_common.specs.declared.log2.Log2.{Log2}
-use Rattle.aec3_common.specs.declared.log2.Log2.TheVariants.{Value, Refused}
+use Rattle.aec3_common.specs.Answers.{answer_case}
 use Rattle.aec3_common.specs.Binary32.{zero32}
 use Rattle.aec3_common.specs.Refusal.{unless, accepted, bad_log2_input}
 
@@ -23,18 +22,14 @@ approx_log2 x = sub binary32 (mul binary32 (rounded (to_bits binary32 x)) (over 
 abbrev pub log2_refusal : Float → ℕ
 log2_refusal x = unless (lt zero32 x) bad_log2_input accepted
 
--- the case of an answer: number 0 has the value, any other number is a refusal
-abbrev pub log2_case : ℕ → Float → Log2
-log2_case number value = cond (number == accepted) (Value value) (Refused number)
+unfoldable pub log2_answer : Float → Result Float ℕ
+log2_answer x = answer_case (log2_refusal x) (approx_log2 x)
 
-unfoldable pub log2_answer : Float → Log2
-log2_answer x = log2_case (log2_refusal x) (approx_log2 x)
+-- the answer's case read back: its number, and its value's bits
+abbrev pub log2_number : Result Float ℕ → ℕ
+log2_number (Ok x) = accepted
+log2_number (Err n) = n
 
--- and back: the number and the value's bits of each case
-abbrev pub log2_number : Log2 → ℕ
-log2_number (Value x) = accepted
-log2_number (Refused n) = n
-
-abbrev pub log2_bits : Log2 → List ℕ
-log2_bits (Value x) = to_bits binary32 x ∷ []
-log2_bits (Refused n) = []
+abbrev pub log2_bits : Result Float ℕ → List ℕ
+log2_bits (Ok x) = to_bits binary32 x ∷ []
+log2_bits (Err n) = []

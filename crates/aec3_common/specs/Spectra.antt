@@ -1,5 +1,5 @@
 -- Spectra of several channels in one list, channel by channel, 65 bands each.
-use Rattle.std.specs.Prelude.{ℕ, suc, ◌*◌, Bool, cond, ◌&&◌, List, [], ◌∷◌, length, get_or, take, drop, ◌==◌, nat_lt, slice_index_or, Float}
+use Rattle.std.specs.Prelude.{ℕ, suc, ◌*◌, Bool, cond, ◌&&◌, List, [], ◌∷◌, length, get_or, take, drop, ◌==◌, nat_lt, slice_index_or, fold, Float}
 use Rattle.std.specs.Float.{nan, binary32}
 use Rattle.std.specs.Float.Ieee.{add}
 use Rattle.aec3_common.specs.Lists.{tab}
@@ -31,9 +31,8 @@ flagged ch [] = []
 flagged ch (flag ∷ flags) = cond flag (ch ∷ flagged (suc ch) flags) (flagged (suc ch) flags)
 
 -- the numbers added up in order, each sum rounded
-unfoldable pub sum_from : Float → List Float → Float
-sum_from from [] = from
-sum_from from (x ∷ xs) = sum_from (add binary32 from x) xs
+abbrev pub sum_from : Float → List Float → Float
+sum_from from xs = fold (add binary32) from xs
 
 -- beginning at plus zero
 abbrev pub sum : List Float → Float

@@ -1,9 +1,8 @@
 // binary32 helpers, each operation rounded once.
-ghost use Rattle.std.specs.Prelude.{◌≡◌, ◌+◌, ◌≤◌, length};
-ghost use Rattle.std.specs.Simd.Lanes.{chunk};
+ghost use Rattle.std.specs.Prelude.{◌≡◌, ◌≤◌, length, take};
 ghost use Rattle.aec3_common.specs.Binary32.{clamped, within, values_ok, sums_ok};
 ghost use Rattle.aec3_common.specs.Binary32.{larger as Binary32·larger, smaller as Binary32·smaller, moved as Binary32·moved};
-ghost use Rattle.aec3_common.specs.Lists.{every};
+ghost use Rattle.std.specs.List.{list_all};
 
 use std::simd::prelude::*;
 
@@ -71,30 +70,30 @@ pub fn sums_ok(xs: &[f32]) -> bool
     all_within(xs, GREATEST_SUM)
 }
 
-// Whether every value lies in 0 to hi: four at a time while there are four, with no early way out.
+// Whether every value lies in 0 to hi: four at a time, with no early way out while there are four, and then the rest.
 fn all_within(xs: &[f32], hi: f32) -> bool
-    ensures { result ≡ every (within hi) xs.now }
+    ensures { result ≡ list_all (within hi) xs.now }
 {
+    let (fours, rest) = xs.as_chunks::<4>();
     let mut ok = true;
-    let mut k = 0;
-    while k < xs.len() {
-        if xs.len() - k >= 4 {
-            ok = ok & four_within(xs, k, hi);
-            k += 4;
-        } else {
-            ok = ok & is_within(xs[k], hi);
-            k += 1;
-        }
+    for four in fours {
+        ok = ok & four_within(four, hi);
     }
-    ok
+    ok & each_within(rest, hi)
 }
 
-// Whether each of four values in a row lies in 0 to hi.
-fn four_within(xs: &[f32], at: usize, hi: f32) -> bool
-    requires { at + 4 ≤ length xs.now }
-    ensures { result ≡ every (within hi) (chunk at 4 xs.now) }
+fn each_within(xs: &[f32], hi: f32) -> bool
+    ensures { result ≡ list_all (within hi) xs.now }
 {
-    let lanes = f32x4::from_slice(&xs[at..]);
+    xs.iter().all(|&x| is_within(x, hi))
+}
+
+// Whether each of the first four values lies in 0 to hi.
+fn four_within(xs: &[f32], hi: f32) -> bool
+    requires { 4 ≤ length xs.now }
+    ensures { result ≡ list_all (within hi) (take 4 xs.now) }
+{
+    let lanes = f32x4::from_slice(xs);
     let above = f32x4::splat(0.0).simd_le(lanes).to_bitmask();
     let below = lanes.simd_le(f32x4::splat(hi)).to_bitmask();
     (above == 15) & (below == 15)

@@ -7,16 +7,13 @@ ghost use Rattle.aec3_common.specs.Counts.{one_more, fallen as Counts·fallen};
 pub fn one_more(n: u32) -> u32
     ensures { result ≡ one_more n }
 {
-    if n < 4_294_967_295 { n + 1 } else { n }
+    n.saturating_add(1)
 }
 
 // A hold, one block later.
+#[tactic(auto, unfolding(crate::specs::Counts::fallen))]
 pub fn fallen(hold: i32) -> i32
     ensures { result ≡ Counts·fallen hold }
 {
-    if hold <= -2_147_483_648 {
-        hold
-    } else {
-        hold - 1
-    }
+    hold.saturating_sub(1)
 }

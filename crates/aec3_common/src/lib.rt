@@ -2,8 +2,9 @@
 #![tactic(auto)]
 
 pub mod binary32;
+pub mod block;
 pub mod counts;
-pub mod judge;
+pub mod entries;
 pub mod log2;
 pub mod refusal;
 pub mod settings;
@@ -11,8 +12,10 @@ pub mod spectra;
 pub mod streams;
 
 pub use binary32::{clamp, larger, moved, smaller, sums_ok, values_ok};
-pub use log2::{Log2, fast_approx_log2f};
-pub use settings::ErleSettings;
+pub use block::Block;
+pub use log2::fast_approx_log2f;
+pub use refusal::{Answer, Refusal};
+pub use settings::{ErleLimits, ErleSettings, FilterLayout};
 
 // Spectra have 65 bands, 0 to 64.
 pub const FFT_LENGTH_BY_2: usize = 64;

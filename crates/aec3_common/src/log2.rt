@@ -1,25 +1,20 @@
 // Log2, by the bits of its input.
 ghost use Rattle.std.specs.Prelude.{◌≡◌};
+ghost use Rattle.aec3_common.specs.Answers.{numbered};
 ghost use Rattle.aec3_common.specs.Log2.{approx_log2, log2_answer, rounded as Log2·rounded};
 
-use crate::refusal::BAD_LOG2_INPUT;
+use crate::refusal::Refusal;
 use encoding::bits_of;
-
-#[derive(Clone, Copy)]
-pub enum Log2 {
-    Value(f32),
-    Refused(u32),
-}
 
 // Log2 of a positive number, plus infinity included; of any other 7.
 #[tactic(auto, unfolding(crate::specs::Log2::log2_answer))]
-pub fn fast_approx_log2f(input: f32) -> Log2
-    ensures { result ≡ log2_answer input }
+pub fn fast_approx_log2f(input: f32) -> Result<f32, Refusal>
+    ensures { numbered result ≡ log2_answer input }
 {
     if input > 0.0 {
-        Log2::Value(approx_log2(input))
+        Ok(approx_log2(input))
     } else {
-        Log2::Refused(BAD_LOG2_INPUT)
+        Err(Refusal::BadLog2Input)
     }
 }
 

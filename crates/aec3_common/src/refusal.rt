@@ -1,36 +1,68 @@
-// The numbers under which a call or a record is turned away. What each means is said once, in specs/Refusal.antt.
-pub const ACCEPTED: u32 = 0;
+// Why a call or a record is turned away. The numbers, and what each means, are said once, in specs/Refusal.antt.
+ghost use Rattle.std.specs.Prelude.{◌≡◌};
+ghost use Rattle.aec3_common.specs.Answers.{number, number_of, told};
+ghost use Rattle.aec3_common.specs.Refusal.{lesser};
 
-pub const BAD_LIMITS: u32 = 1;
+use std::fmt;
 
-pub const BAD_CHANNEL_COUNT: u32 = 2;
+// The numbers are those of the definitions.
+#[derive(Clone, Copy, Debug, PartialEq, Eq)]
+pub enum Refusal {
+    BadLimits = 1,
+    BadChannelCount = 2,
+    BadSections = 3,
+    BadRing = 4,
+    BadLength = 5,
+    BadValue = 6,
+    BadLog2Input = 7,
+    BadOffset = 8,
+    BadPlace = 9,
+    BadFrame = 10,
+    UnknownKind = 11,
+    BadRecordLength = 12,
+    BadFlagOrBand = 13,
+    BadState = 20,
+    OtherChannelCount = 21,
+    NoSettings = 22,
+    SecondSettings = 23,
+}
 
-pub const BAD_SECTIONS: u32 = 3;
+impl From<Refusal> for u32 {
+    ghost from_gives = { λ refusal n. n ≡ number refusal };
 
-pub const BAD_RING: u32 = 4;
+    fn from(refusal: Refusal) -> u32 {
+        refusal as u32
+    }
+}
 
-pub const BAD_LENGTH: u32 = 5;
+// A refusal is shown as its number.
+impl fmt::Display for Refusal {
+    fn fmt<W: fmt::Write>(&self, f: &mut fmt::Formatter<W>) -> fmt::Result {
+        write!(f, "{}", u32::from(*self))
+    }
+}
 
-pub const BAD_VALUE: u32 = 6;
+// The next state, where a call is accepted; where it is turned away, the state as it was.
+#[derive(Clone, Copy, Debug)]
+pub struct Answer<S> {
+    pub state: S,
+    pub outcome: Result<(), Refusal>,
+}
 
-pub const BAD_LOG2_INPUT: u32 = 7;
-
-pub const BAD_OFFSET: u32 = 8;
-
-pub const BAD_PLACE: u32 = 9;
-
-pub const BAD_FRAME: u32 = 10;
-
-pub const UNKNOWN_KIND: u32 = 11;
-
-pub const BAD_RECORD_LENGTH: u32 = 12;
-
-pub const BAD_FLAG_OR_BAND: u32 = 13;
-
-pub const BAD_STATE: u32 = 20;
-
-pub const OTHER_CHANNEL_COUNT: u32 = 21;
-
-pub const NO_SETTINGS: u32 = 22;
-
-pub const SECOND_SETTINGS: u32 = 23;
+// The lesser of two refusals, if there are any.
+#[tactic(auto, unfolding(crate::specs::Refusal::lesser))]
+pub fn lesser(a: Result<(), Refusal>, b: Result<(), Refusal>) -> Result<(), Refusal>
+    ensures { number_of result ≡ lesser (number_of a) (number_of b) }
+{
+    match (a, b) {
+        (Err(first), Err(second)) => {
+            if u32::from(first) < u32::from(second) {
+                a
+            } else {
+                b
+            }
+        }
+        (Err(_), Ok(())) => a,
+        (Ok(()), _) => b,
+    }
+}

@@ -1,9 +1,10 @@
 -- The starred bench values: what document 01 gives, beside what the definitions give.
-use Rattle.std.specs.Prelude.{◌≡◌, true, cond, List, [], ◌∷◌, map, ℕ, suc, ◌^◌, eqb, ℤ, pos, negsuc, get_or, take}
+use Rattle.std.specs.Prelude.{◌≡◌, true, List, [], ◌∷◌, map, ℕ, suc, ◌^◌, ℤ, pos, negsuc, get_or, take, Result, Ok, Err}
 use Rattle.std.specs.Float.{nan, binary32}
 use Rattle.std.specs.Float.Ieee.{of_bits, to_bits, to_unsigned}
 use Rattle.aec3_common.specs.Lists.{tab}
 use Rattle.aec3_common.specs.Log2.{rounded, log2_answer, log2_number, log2_bits}
+use Rattle.aec3_common.specs.Refusal.{accepted}
 use Rattle.spectrum_buffer.specs.Ring.{offset_answer, place_number, place_value}
 use Rattle.erl_estimator.specs.Erl.{started, update_answer}
 use Rattle.filter_sections.specs.Sections.{sections_answer}
@@ -29,11 +30,14 @@ ring_row given size index offset =
     let a = offset_answer size index offset in
     record { given = given; defined = place_number a ∷ place_value a }
 
+-- the number of an answer, and where it is accepted the boundaries of n sections
+abbrev pub sections_numbers : ℕ → Result (List ℕ) ℕ → List ℕ
+sections_numbers n (Ok boundaries) = accepted ∷ take (suc n) boundaries
+sections_numbers n (Err number) = number ∷ []
+
 -- the boundaries of so many sections of so many blocks, without headroom
 abbrev pub sections_row : List ℕ → ℕ → ℕ → Row
-sections_row given n blocks =
-    let a = sections_answer n blocks 0 in
-    record { given = given; defined = a.refused ∷ cond (eqb a.refused 0) (take (suc n) a.boundaries) [] }
+sections_row given n blocks = record { given = given; defined = sections_numbers n (sections_answer n blocks 0) }
 
 -- band 1 of an ERL estimator, by its bits, after a first block of render 2^26 and capture 0 in every band; 900 is 0x4461_0000
 abbrev pub erl_row : List ℕ → Row

@@ -2,11 +2,8 @@
 // that replay a script of library calls. No function asks anything of its caller.
 #![tactic(auto)]
 
-mod fields;
 mod fullband;
-mod signed;
 mod subband;
 
-pub use fields::put_compensated_line;
-pub use fullband::{FullReadings, put_full_line, put_fullband_line};
-pub use subband::put_subband_state;
+pub use fullband::{FullReadings, FullbandState};
+pub use subband::SubbandState;

@@ -1,19 +1,24 @@
 // The inner state of a subband channel.
-use crate::fields::{put_flag_line, put_hold_line, put_points_line};
-use script::put_array_line;
+use script::{Digits, Figures, Row};
+use std::fmt;
 use subband_erle_estimator::SubbandChannel;
 
-// What a channel holds besides its streams. It gives at most 2,138 bytes.
-pub fn put_subband_state(out: &mut [u8], at: usize, c: usize, channel: SubbandChannel) -> usize {
-    let y2 = channel.y2;
-    let e2 = channel.e2;
-    let low = channel.low_render_energy;
-    let waits = channel.coming_onset;
-    let holds = channel.hold_counters;
-    let at = put_points_line(out, at, c, channel.num_points);
-    let at = put_array_line(out, at, b"y2sum", c, y2);
-    let at = put_array_line(out, at, b"e2sum", c, e2);
-    let at = put_flag_line(out, at, b"low", c, low);
-    let at = put_flag_line(out, at, b"wait", c, waits);
-    put_hold_line(out, at, c, holds)
+// What a channel holds besides its streams.
+#[derive(Clone, Copy)]
+pub struct SubbandState<'a> {
+    pub index: usize,
+    pub channel: &'a SubbandChannel,
+}
+
+impl fmt::Display for SubbandState<'_> {
+    fn fmt<W: fmt::Write>(&self, f: &mut fmt::Formatter<W>) -> fmt::Result {
+        let c = self.index;
+        let channel = self.channel;
+        writeln!(f, "points {c} {}", channel.num_points)?;
+        writeln!(f, "y2sum {c}{}", Figures(&channel.y2))?;
+        writeln!(f, "e2sum {c}{}", Figures(&channel.e2))?;
+        writeln!(f, "low {c} {}", Digits(&channel.low_render_energy))?;
+        writeln!(f, "wait {c} {}", Digits(&channel.coming_onset))?;
+        writeln!(f, "hold {c}{}", Row(&channel.hold_counters))
+    }
 }

@@ -1,101 +1,57 @@
--- Loops over the bands of a subband, and where these end.
-use mathlib.Core.Path.{◌≡◌, refl, ap, ◌∙◌}
-use mathlib.Core.Bool.{true, cond}
-use mathlib.Core.List.{List, [], ◌∷◌}
-use Prim.Native.Nat.{ℕ, zero, suc, ◌+◌, ◌-◌, ◌≤◌, ◌<◌}
-use native.Mathlib.Nat.{le_refl, le_trans, le_of_lt}
-use native.Mathlib.Omega.{arith}
-use borrow.Author.Tests.{ltb-true, leb-true}
-use lib.Dec.{leb, ltb}
-use lib.Ieee.{Float, binary32, add}
-use lib.ListN.{get_or}
-use Rattle.aec3_common.specs.Lists.{tab, every}
-use Rattle.aec3_common.specs.Spectra.{sum_from}
-use Rattle.aec3_common.proofs.Choices.{and_left, and_right, cond_has}
+-- The bands of a subband, and what stands there.
+use Rattle.std.proofs.Common.{◌≡◌, ℕ, zero, suc, ◌+◌, ◌-◌, ◌<◌, ◌≤◌, min, Bool, true, ◌&&◌, leb, List, [], ◌∷◌, length, get_or, take, drop, refl, ◌∙◌, le_refl, le_trans, add-one, arith, leb-true, length-drop}
+use Rattle.std.proofs.Math.Nat.{min-le_left}
+use Rattle.std.proofs.lemmas.List.{length-take-le, get_or-take, get_or-drop}
+use Rattle.std.specs.List.{list_all}
+use Rattle.aec3_common.specs.Lists.{tab}
+use Rattle.aec3_common.proofs.Choices.{and_left, and_right}
+use Rattle.aec3_common.proofs.Tables.{tab-is}
 use Rattle.filter_sections.specs.Subbands.{later_begins, subband_begin, subband_bands}
 use Rattle.correction_factors.specs.Factors.{least_from, least_active, of_subband}
 
--- What a loop knows at k that takes the entries from begin to below end one by one: its total is that of the entries before k.
-pub record Taken {A B : Type 0} (total : List A → B) (f : ℕ → A) (begin end k : ℕ) (r : B) : Type 0 where
-  pub from : begin ≤ k
-  pub to : k - begin ≤ end - begin
-  pub done : r ≡ total (tab (k - begin) (λ j. f (begin + j)))
-
-module _ {A B : Type 0} (total : List A → B) (f : ℕ → A) (begin end : ℕ) where
-  pub taken_none : Taken total f begin end begin (total [])
-  unfolding tab
-  taken_none =
-      let none : begin - begin ≡ 0 = omega arith in
-      record { from = le_refl begin; to = omega arith; done = rw none refl }
-
-  -- one entry more, where the total of one entry more is known
-  pub taken_more :
-      (more : B → A → B) → ((n : ℕ) (g : ℕ → A) → total (tab (suc n) g) ≡ more (total (tab n g)) (g n))
-      → {k : ℕ} {r v : B} → Taken total f begin end k r → k < end → v ≡ more r (f k) → Taken total f begin end (k + 1) v
-  taken_more more last {k} {r} t h e =
-      let next : k + 1 - begin ≡ suc (k - begin) = omega (arith, t.from) in
-      let on : begin + (k - begin) ≡ k = omega (arith, t.from) in
-      record {
-        from = omega (arith, t.from);
-        to = omega (arith, t.from);
-        done =
-            e ∙ rw (next, last (k - begin) (λ j. f (begin + j)), on) (ap (λ (b : B). more b (f k)) t.done);
-      }
-
-  pub taken-all :
-      {k : ℕ} {r : B} → Taken total f begin end k r → end ≤ k → r ≡ total (tab (end - begin) (λ j. f (begin + j)))
-  taken-all {k} t h =
-      let all : k - begin ≡ end - begin = omega (arith, t.from, t.to) in
-      t.done ∙ ap (λ (n : ℕ). total (tab n (λ j. f (begin + j)))) all
-
--- a sum of one number more
-pub sum-last :
-    (from : Float) (n : ℕ) (f : ℕ → Float) → sum_from from (tab (suc n) f) ≡ add binary32 (sum_from from (tab n f)) (f n)
-unfolding sum_from tab
-sum-last from zero f = refl
-sum-last from (suc n) f = sum-last (add binary32 from (f zero)) n (λ k. f (suc k))
-
--- the least of one number more
-pub least-last :
-    (m n : ℕ) (f : ℕ → ℕ)
-    → least_from m (tab (suc n) f) ≡ cond (ltb (f n) (least_from m (tab n f))) (f n) (least_from m (tab n f))
-unfolding least_from tab
-least-last m zero f = refl
-least-last m (suc n) f = least-last (cond (ltb (f zero) m) (f zero) m) n (λ k. f (suc k))
-
 -- the least is not above the first
 pub least_under : (n : ℕ) (ms : List ℕ) → least_from n ms ≤ n
-unfolding least_from
 least_under n [] = le_refl n
-least_under n (m ∷ ms) =
-    le_trans (least_under (cond (ltb m n) m n) ms)
-    (cond_has (λ x. x ≤ n) (ltb m n) (λ q. le_of_lt (ltb-true m n q)) (λ q. le_refl n))
+least_under n (m ∷ ms) = le_trans (least_under (min n m) ms) (min-le_left n m)
 
 -- an entry of numbers up to 65, or 65
-entry-within : (ns : List ℕ) (k : ℕ) → every (λ n. leb n 65) ns ≡ true → get_or ns k 65 ≤ 65
-unfolding every
+entry-within : (ns : List ℕ) (k : ℕ) → list_all (λ n. leb n 65) ns ≡ true → get_or ns k 65 ≤ 65
 entry-within [] k e = le_refl 65
-entry-within (n ∷ ns) zero e = leb-true n 65 (and_left (leb n 65) (every (λ n. leb n 65) ns) e)
-entry-within (n ∷ ns) (suc k) e = entry-within ns k (and_right (leb n 65) (every (λ n. leb n 65) ns) e)
+entry-within (n ∷ ns) zero e = leb-true n 65 (and_left (leb n 65) (list_all (λ n. leb n 65) ns) e)
+entry-within (n ∷ ns) (suc k) e = entry-within ns k (and_right (leb n 65) (list_all (λ n. leb n 65) ns) e)
+
+-- whether a number and those after it rise, up to 65
+abbrev rises : ℕ → List ℕ → Bool
+rises n [] = leb n 65
+rises n (m ∷ ns) = leb n m && rises m ns
+
+-- then none is above the next
+entry-rises : (n : ℕ) (ns : List ℕ) (k : ℕ) → rises n ns ≡ true → get_or (n ∷ ns) k 65 ≤ get_or ns k 65
+entry-rises n [] zero e = leb-true n 65 e
+entry-rises n [] (suc k) e = le_refl 65
+entry-rises n (m ∷ ns) zero e = leb-true n m (and_left (leb n m) (rises m ns) e)
+entry-rises n (m ∷ ns) (suc k) e = entry-rises m ns k (and_right (leb n m) (rises m ns) e)
+
+-- no subband ends before it begins
+pub bands-ordered : (subband : ℕ) → (subband_bands subband).start ≤ (subband_bands subband).end
+unfolding subband_bands subband_begin
+bands-ordered subband = rw (add-one subband) (entry-rises 1 later_begins subband refl)
 
 -- no subband ends behind the last band
 pub ends-within : (subband : ℕ) → (subband_bands subband).end ≤ 65
-unfolding subband_bands subband_begin every
+unfolding subband_bands subband_begin
 ends-within subband = entry-within (1 ∷ later_begins) (subband + 1) refl
 
--- what every entry of a table has, and its default, an entry at any place has
-tab-has :
-    {A : Type 0} (P : A → Type 0) (n : ℕ) (f : ℕ → A) (d : A) → P d → ((k : ℕ) → P (f k)) → (k : ℕ) → P (get_or (tab n f) k d)
-unfolding tab
-tab-has P zero f d p each k = p
-tab-has P (suc n) f d p each zero = each zero
-tab-has P (suc n) f d p each (suc k) = tab-has P n (λ j. f (suc j)) d p (λ j. each (suc j)) k
+-- a part of a list, by its entries
+pub part-is :
+    {A : Type 0} (d : A) (xs : List A) (from to : ℕ) → from ≤ to → to ≤ length xs
+    → take (to - from) (drop from xs) ≡ tab (to - from) (λ j. get_or xs (from + j) d)
+part-is d xs from to ordered within =
+    tab-is (to - from) d (λ j. get_or xs (from + j) d) (take (to - from) (drop from xs))
+    (length-take-le (to - from) (drop from xs) (omega (arith, length-drop from xs)))
+    (λ j h. get_or-take (to - from) (drop from xs) j d h ∙ get_or-drop from xs j d)
 
 -- the least active section of a subband is one of eight
-pub least-of-eight :
-    (sections : ℕ) (active : List ℕ) → sections ≤ 8
-    → (subband : ℕ) → get_or (tab 6 (λ s. least_active sections active s)) subband 0 < 8
+pub least-of-eight : (sections : ℕ) (active : List ℕ) (subband : ℕ) → sections ≤ 8 → least_active sections active subband < 8
 unfolding least_active
-least-of-eight sections active few =
-    tab-has (λ n. n < 8) 6 (λ s. least_active sections active s) 0 (omega arith)
-    (λ s. omega (arith, least_under (sections - 1) (of_subband 0 active s)))
+least-of-eight sections active subband few = omega (arith, least_under (sections - 1) (of_subband 0 active subband))

@@ -9,13 +9,15 @@ use lib.Dec.{leb, ltb, eqb}
 use lib.Ieee.{Float, nan}
 use lib.ListN.{length, get_or, set, length-set}
 use lib.Seq.{get_or-set_same, get_or-set_other}
-use Rattle.aec3_common.specs.Lists.{tab, every}
+use Rattle.std.specs.List.{list_all}
+use Rattle.aec3_common.specs.Lists.{tab}
+use Rattle.aec3_common.specs.Steps.{Changed}
 use Rattle.aec3_common.proofs.Choices.{and_left, and_right, cond_has}
-use Rattle.aec3_common.proofs.Every.{every-at}
+use Rattle.aec3_common.proofs.Every.{list_all-at}
 use Rattle.aec3_common.proofs.Tables.{length-tab, get_or-tab, tab-is, tab-same}
 use Rattle.filter_sections.specs.Subbands.{subband_begin, band_to_subband, max_erle}
 use Rattle.correction_factors.specs.Factors.{entry_of}
-use Rattle.correction_factors.specs.Steps.{first_band, factors_put, factors_of, corrected_by}
+use Rattle.correction_factors.specs.Steps.{first_band, factors_of, corrected_by}
 use Rattle.correction_factors.specs.Streams.{own_or_63, factor_of, corrected_band, corrected, last_copied}
 
 -- ---- bands and subbands
@@ -41,15 +43,15 @@ maps-to s k few b from to =
     ∙ rw (le-leb (first_band s) k from, lt-ltb k (first_band (s + 1)) to))
 
 -- the subbands begin one behind the other, and none behind the last band
-firsts : every (λ s. leb (first_band s) (first_band (s + 1)) && leb (first_band (s + 1)) 65) (tab 6 (λ s. s)) ≡ true
-unfolding every tab first_band subband_begin
+firsts : list_all (λ s. leb (first_band s) (first_band (s + 1)) && leb (first_band (s + 1)) 65) (tab 6 (λ s. s)) ≡ true
+unfolding tab first_band subband_begin
 firsts = refl
 
 module _ (s : ℕ) (few : s < 6) where
   in_order : (leb (first_band s) (first_band (s + 1)) ≡ true) × (leb (first_band (s + 1)) 65 ≡ true)
   in_order =
       let test : ℕ → Bool = λ j. leb (first_band j) (first_band (j + 1)) && leb (first_band (j + 1)) 65 in
-      let at = every-at test (tab 6 (λ j. j)) 0 s firsts (omega (arith, length-tab 6 (λ (j : ℕ). j))) in
+      let at = list_all-at test (tab 6 (λ j. j)) 0 s firsts (omega (arith, length-tab 6 (λ (j : ℕ). j))) in
       let here : test s ≡ true = rw (get_or-tab 6 (λ j. j) s 0 few) at at in
       (and_left (leb (first_band s) (first_band (s + 1))) _ here, and_right (leb (first_band s) (first_band (s + 1))) _ here)
 
@@ -72,26 +74,30 @@ unfolding first_band
 chosen_none factors active r long = record { to = omega arith; long = long; done = λ k h. absurd (omega arith) }
 
 pub chosen_more :
-    {factors : List Float} {active : List ℕ} {r t : List Float} {s : ℕ}
-    → Chosen factors active r s → s < 6 → t ≡ factors_put factors active s (first_band s) (first_band (s + 1)) r
+    {factors : List Float} {active : List ℕ} {made : ℕ → Float → Float → Type 0} {r t : List Float} {s : ℕ}
+    → Chosen factors active r s → s < 6 → length t ≡ 65 → Changed made (first_band s) (first_band (s + 1)) r t
+    → ((k : ℕ) (x y : Float) → made k x y → y ≡ entry_of factors (get_or active k 0) s)
     → Chosen factors active t (s + 1)
-unfolding factors_put factor_of
-chosen_more {factors} {active} {r} {t} {s} c few e =
+unfolding factor_of
+chosen_more {factors} {active} {made} {r} {t} {s} c few long changed told =
     record {
       to = omega arith;
-      long = ap length e ∙ length-tab 65 _;
-      done = λ k h. ap (λ (l : List Float). get_or l k nan) e ∙ get_or-tab 65 _ k nan (inside k h) ∙ at k h (leb (first_band s) k) refl;
+      long = long;
+      done = λ k h. at k h (leb (first_band s) k) refl;
     }
   where
     inside : (k : ℕ) → k < first_band (s + 1) → k < 65
     inside k h = omega (arith, first-within s few)
 
     at :
-        (k : ℕ) → k < first_band (s + 1) → (q : Bool) → leb (first_band s) k ≡ q
-        → cond (q && ltb k (first_band (s + 1))) (entry_of factors (get_or active k 0) s) (get_or r k nan) ≡ factor_of factors active k
+        (k : ℕ) → k < first_band (s + 1) → (q : Bool) → leb (first_band s) k ≡ q → get_or t k nan ≡ factor_of factors active k
     at k h true p =
-        rw (lt-ltb k (first_band (s + 1)) h, maps-to s k few (inside k h) (leb-true (first_band s) k p) h)
-    at k h false p = c.done k (leb-false (first_band s) k p)
+        let from : first_band s ≤ k = leb-true (first_band s) k p in
+        told k (get_or r k nan) (get_or t k nan) (changed.within k nan from h)
+        ∙ rw (maps-to s k few (inside k h) from h) refl
+    at k h false p =
+        let before : k < first_band s = leb-false (first_band s) k p in
+        changed.below k nan before ∙ c.done k before
 
 pub chosen-all : {factors : List Float} {active : List ℕ} {r : List Float} {s : ℕ} → Chosen factors active r s → 6 ≤ s → r ≡ factors_of factors active
 unfolding factors_of first_band subband_begin

@@ -12,6 +12,7 @@ use lib.Seq.{get_or-set_same, get_or-set_other}
 use Rattle.aec3_common.proofs.Choices.{cond-by}
 use Rattle.aec3_common.proofs.Tables.{tab-is, tab-same}
 use Rattle.correction_factors.specs.Factors.{where_learning, section_of, subband_of}
+use Rattle.correction_factors.specs.Steps.{LearningChanged}
 
 -- where a section's entry in a subband stands
 abbrev pub place_of : ℕ → ℕ → ℕ
@@ -20,65 +21,82 @@ place_of section subband = section * 6 + subband
 pub subband-of-place : (section subband : ℕ) → subband < 6 → subband_of (place_of section subband) ≡ subband
 subband-of-place section subband h = omega arith
 
--- what the loop knows at subband n: the entries of the subbands before it are as they shall be, the others as they were
-pub record Learning (section : ℕ → ℕ) (f : ℕ → Float → Float) (old r : List Float) (n : ℕ) : Type 0 where
+-- what the loop knows at subband n: in the subbands before it the entries of the sections that learn are made; the others are as they were
+pub record Learning (made : ℕ → ℕ → Float → Float → Type 0) (section : ℕ → ℕ) (old r : List Float) (n : ℕ) : Type 0 where
   pub to : n ≤ 6
   pub long : length r ≡ 48
   pub done :
-      (j : ℕ) → j < 48 → subband_of j < n
-      → get_or r j nan ≡ cond (eqb (section_of j) (section (subband_of j))) (f j (get_or old j nan)) (get_or old j nan)
-  pub ahead : (j : ℕ) → n ≤ subband_of j → get_or r j nan ≡ get_or old j nan
+      (j : ℕ) → j < 48 → subband_of j < n → section_of j ≡ section (subband_of j)
+      → made (subband_of j) j (get_or old j nan) (get_or r j nan)
+  pub others : (j : ℕ) → (subband_of j < n → section_of j ≡ section (subband_of j) → ⊥) → get_or r j nan ≡ get_or old j nan
 
 pub learning-begun :
-    (section : ℕ → ℕ) (f : ℕ → Float → Float) (old : List Float) → length old ≡ 48 → Learning section f old old 0
-learning-begun section f old long =
-    record { to = omega arith; long = long; done = λ j b h. absurd (omega arith); ahead = λ j h. refl }
+    (made : ℕ → ℕ → Float → Float → Type 0) (section : ℕ → ℕ) (old : List Float) → length old ≡ 48 → Learning made section old old 0
+learning-begun made section old long =
+    record { to = omega arith; long = long; done = λ j b h p. absurd (omega arith); others = λ j out. refl }
 
 module _
-    {section : ℕ → ℕ} {f : ℕ → Float → Float} {old r : List Float} {n : ℕ} (l : Learning section f old r n)
+    {made : ℕ → ℕ → Float → Float → Type 0} {section : ℕ → ℕ} {old r : List Float} {n : ℕ} (l : Learning made section old r n)
   where
     pub learning-more :
-        (v : Float) → n < 6 → section n < 8
-        → v ≡ f (place_of (section n) n) (get_or r (place_of (section n) n) nan)
-        → Learning section f old (set r (place_of (section n) n) v) (n + 1)
-    learning-more v h some e =
+        (v : Float) → n < 6 → section n < 8 → made n (place_of (section n) n) (get_or r (place_of (section n) n) nan) v
+        → Learning made section old (set r (place_of (section n) n) v) (n + 1)
+    learning-more v h some m =
         record {
           to = omega arith;
           long = length-set r place v ∙ l.long;
-          done = λ j b under. at j b under (ltb (subband_of j) n) refl;
-          ahead = λ j over. other j (λ q. omega arith) ∙ l.ahead j (omega arith);
+          done = λ j b under p. at j b under p (ltb (subband_of j) n) refl;
+          others = λ j out.
+              kept j (λ q. out (omega arith) (there j q))
+              ∙ l.others j (λ under. out (omega arith));
         }
       where
         place : ℕ
         place = place_of (section n) n
 
-        other : (j : ℕ) → (j ≡ place → ⊥) → get_or (set r place v) j nan ≡ get_or r j nan
-        other j apart = get_or-set_other r place j v nan apart
+        there : (j : ℕ) → j ≡ place → section_of j ≡ section (subband_of j)
+        there j q =
+            let here : subband_of j ≡ n = omega arith in
+            let own : section_of j ≡ section n = omega arith in
+            own ∙ ap section (sym here)
+
+        kept : (j : ℕ) → (j ≡ place → ⊥) → get_or (set r place v) j nan ≡ get_or r j nan
+        kept j apart = get_or-set_other r place j v nan apart
+
+        now_made : made n place (get_or old place nan) (get_or (set r place v) place nan)
+        now_made =
+            subst (λ (y : Float). made n place (get_or old place nan) y) (sym (get_or-set_same r place v nan (omega (arith, l.long))))
+            (subst (λ (x : Float). made n place x v) (l.others place (λ under p. absurd (omega arith))) m)
 
         at :
-            (j : ℕ) → j < 48 → subband_of j < n + 1 → (t : Bool) → ltb (subband_of j) n ≡ t
-            → get_or (set r place v) j nan
-            ≡ cond (eqb (section_of j) (section (subband_of j))) (f j (get_or old j nan)) (get_or old j nan)
-        at j b under true q =
+            (j : ℕ) → j < 48 → subband_of j < n + 1 → section_of j ≡ section (subband_of j) → (t : Bool) → ltb (subband_of j) n ≡ t
+            → made (subband_of j) j (get_or old j nan) (get_or (set r place v) j nan)
+        at j b under p true q =
             let before : subband_of j < n = ltb-true (subband_of j) n q in
-            other j (λ p. omega arith) ∙ l.done j b before
-        at j b under false q =
+            subst (λ (y : Float). made (subband_of j) j (get_or old j nan) y) (sym (kept j (λ e. omega arith))) (l.done j b before p)
+        at j b under p false q =
             let here : subband_of j ≡ n = omega (arith, ltb-false (subband_of j) n q) in
-            cond-by (eqb (section_of j) (section (subband_of j))) (get_or (set r place v) j nan) (f j (get_or old j nan)) (get_or old j nan)
-            (λ p.
-            let same : j ≡ place = omega (arith, eqb-true (section_of j) (section (subband_of j)) p, ap section here) in
-            subst (λ (i : ℕ). get_or (set r place v) i nan ≡ f i (get_or old i nan)) (sym same)
-            (get_or-set_same r place v nan (omega (arith, l.long)) ∙ e ∙ ap (f place) (l.ahead place (omega arith))))
-            (λ p.
-            other j (λ q. eqb-false (section_of j) (section (subband_of j)) p (omega (arith, ap section here)))
-            ∙ l.ahead j (omega arith))
+            let same : j ≡ place = omega (arith, p ∙ ap section here) in
+            subst (λ (s : ℕ). made s j (get_or old j nan) (get_or (set r place v) j nan)) (sym here)
+            (subst (λ (i : ℕ). made n i (get_or old i nan) (get_or (set r place v) i nan)) (sym same) now_made)
 
-    pub learning-over : 6 ≤ n → r ≡ where_learning section f old
-    unfolding where_learning
+    pub learning-over : 6 ≤ n → LearningChanged made section old r
     learning-over over =
-        tab-is 48 nan
-        (λ j. cond (eqb (section_of j) (section (subband_of j))) (f j (get_or old j nan)) (get_or old j nan))
-        r l.long (λ j b. l.done j b (omega arith))
+        record { learning = λ j b p. l.done j b (omega arith) p; others = λ j b out. l.others j (λ under p. out p) }
+
+-- a table of sections in which entries were changed, as the definition says it
+pub learning-all :
+    {made : ℕ → ℕ → Float → Float → Type 0} {section : ℕ → ℕ} {old r : List Float} (f : ℕ → Float → Float)
+    → LearningChanged made section old r → length r ≡ 48
+    → ((j : ℕ) (x y : Float) → j < 48 → made (subband_of j) j x y → y ≡ f j x)
+    → r ≡ where_learning section f old
+unfolding where_learning
+learning-all {section = section} {old = old} {r = r} f l long told =
+    tab-is 48 nan (λ j. cond (eqb (section_of j) (section (subband_of j))) (f j (get_or old j nan)) (get_or old j nan)) r long
+    (λ j b.
+    cond-by (eqb (section_of j) (section (subband_of j))) (get_or r j nan) (f j (get_or old j nan)) (get_or old j nan)
+    (λ p. told j (get_or old j nan) (get_or r j nan) b (l.learning j b (eqb-true (section_of j) (section (subband_of j)) p)))
+    (λ p. l.others j b (eqb-false (section_of j) (section (subband_of j)) p)))
 
 -- the same sections and the same changes
 pub where-same :

@@ -91,7 +91,7 @@ where-kept P section f table each changed j h =
 
 module _ (min max_l max_h : Float) (limits : AllInOrder min max_l max_h) where
   in-order : (s : ℕ) → InOrder min (subband_max max_l max_h s)
-  in-order s = limits (subband_bands s).begin
+  in-order s = limits (subband_bands s).start
 
   -- What a fresh channel has is in range.
   pub fresh-kept : LearntKept min max_l max_h (fresh_factors min)
@@ -144,7 +144,7 @@ learnt-in-range {min} {max_l} {max_h} {c} limits kept =
           (kept.estimates (place_of section subband) (omega arith)));
       references = λ subband six. number-from (kept.references subband six);
       factors = λ section subband eight six.
-          factor-ok (limits (subband_bands subband).begin)
+          factor-ok (limits (subband_bands subband).start)
           (subst
           (λ (s : ℕ).
           let max = subband_max max_l max_h s in

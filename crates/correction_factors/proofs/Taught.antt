@@ -3,7 +3,7 @@ use Rattle.std.proofs.Common.{◌≡◌, ℕ, ◌+◌, ◌-◌, ◌*◌, ◌^◌
 use lib.Ieee.{Float, nan, binary32, div, lt}
 use Rattle.aec3_common.specs.Binary32.{zero32, energy_threshold, greatest_value, within, values_ok}
 use Rattle.aec3_common.proofs.Choices.{and_right}
-use Rattle.aec3_common.proofs.Every.{every-at, every-by}
+use Rattle.aec3_common.proofs.Every.{list_all-at, list_all-by}
 use Rattle.aec3_common.proofs.Numbers.{UpTo, no-sum, sum-up-to, ratio-plus}
 use Rattle.aec3_common.proofs.Rounding.{Signed}
 use Rattle.aec3_common.proofs.Tables.{length-tab, get_or-tab}
@@ -22,11 +22,11 @@ summed :
     → UpTo ((0 + length (of_subband nan spectrum subband)) * 2 ^ 100) (subband_sum spectrum subband)
 unfolding subband_sum
 summed spectrum long ok subband =
-    sum-up-to 0 (of_subband nan spectrum subband) no-sum (every-by (within greatest_value) (of_subband nan spectrum subband) nan each)
+    sum-up-to 0 (of_subband nan spectrum subband) no-sum (list_all-by (within greatest_value) (of_subband nan spectrum subband) nan each)
     (omega (arith, size, ends-within subband))
   where
     begin : ℕ
-    begin = (subband_bands subband).begin
+    begin = (subband_bands subband).start
 
     bands : ℕ
     bands = (subband_bands subband).end - begin
@@ -38,7 +38,7 @@ summed spectrum long ok subband =
     each k h =
         let inside : k < bands = omega (arith, size) in
         ap (within greatest_value) (get_or-tab bands (λ j. get_or spectrum (begin + j) nan) k nan inside)
-        ∙ every-at (within greatest_value) spectrum nan (begin + k) ok (omega (arith, inside, long, ends-within subband))
+        ∙ list_all-at (within greatest_value) spectrum nan (begin + k) ok (omega (arith, inside, long, ends-within subband))
 
 -- The lesson of a converged channel, whose capture has values from 0 to 2^100, teaches each subband such a ratio.
 pub lesson-plus :

@@ -1,6 +1,6 @@
 -- What a channel learns about its sections, subband by subband: how many updates it had, the ERLE of each section and of all
 -- sections together, and from these the factor by which a section's ERLE is corrected.
-use Rattle.std.specs.Prelude.{Bool, cond, ◌&&◌, List, [], ◌∷◌, ℕ, ◌+◌, ◌-◌, ◌*◌, ◌/◌, ◌%◌, ltb, eqb, Float, get_or}
+use Rattle.std.specs.Prelude.{Bool, cond, ◌&&◌, List, ℕ, ◌+◌, ◌-◌, ◌*◌, ◌/◌, ◌%◌, ltb, eqb, min, fold, Float, get_or}
 use Rattle.std.specs.Float.{nan, binary32}
 use Rattle.std.specs.Float.Ieee.{of_bits, div, lt}
 use Rattle.aec3_common.specs.Binary32.{zero32, one32, energy_threshold, clamped, moved}
@@ -20,7 +20,7 @@ subbands = 6
 abbrev pub of_subband : {A : Type 0} → A → List A → ℕ → List A
 of_subband d xs subband =
     let b = subband_bands subband in
-    tab (b.end - b.begin) (λ j. get_or xs (b.begin + j) d)
+    tab (b.end - b.start) (λ j. get_or xs (b.start + j) d)
 
 -- a spectrum's powers in a subband, added up
 unfoldable pub subband_sum : List Float → ℕ → Float
@@ -31,9 +31,8 @@ unfoldable pub subband_sums : List Float → List Float
 subband_sums spectrum = tab subbands (λ s. subband_sum spectrum s)
 
 -- the least of a number and those after it
-unfoldable pub least_from : ℕ → List ℕ → ℕ
-least_from n [] = n
-least_from n (m ∷ ms) = least_from (cond (ltb m n) m n) ms
+abbrev pub least_from : ℕ → List ℕ → ℕ
+least_from n ms = fold min n ms
 
 -- the least active section of a subband's bands; none is above the last section
 unfoldable pub least_active : ℕ → List ℕ → ℕ → ℕ
@@ -41,7 +40,7 @@ least_active sections active subband = least_from (sections - 1) (of_subband 0 a
 
 -- a subband's maximum is that of its bands
 abbrev pub subband_max : Float → Float → ℕ → Float
-subband_max max_l max_h subband = max_erle max_l max_h (subband_bands subband).begin
+subband_max max_l max_h subband = max_erle max_l max_h (subband_bands subband).start
 
 -- ---- ratios
 

@@ -1,85 +1,83 @@
 // How updates, estimates, references and factors move, subband by subband.
-ghost use Rattle.std.specs.Prelude.{◌≡◌, false, ℕ, ◌<◌, length, get_or};
+ghost use Rattle.std.specs.Prelude.{◌≡◌, cond, ℕ, ◌<◌, length, get_or};
 ghost use Rattle.std.specs.Float.{nan};
+ghost use Rattle.aec3_common.specs.Counts.{one_more};
 ghost use Rattle.aec3_common.specs.Lists.{tab};
-ghost use Rattle.correction_factors.specs.Factors.{share as Factors·share, factor_moved, subband_of, where_learning};
-ghost use Rattle.correction_factors.specs.Steps.{count_with, moved_in};
+ghost use Rattle.correction_factors.specs.Factors.{factor_moved, erle_moved, subband_of, where_learning};
+ghost use Rattle.correction_factors.specs.Steps.{EachOfEight, LearningChanged, lesson_at, lesson_in, moved_in};
 
-use crate::ErleLimits;
+use crate::lessons::Lesson;
 use aec3_common::counts::one_more;
-use aec3_common::{clamp, moved};
+use aec3_common::entries::change;
+use aec3_common::{ErleLimits, clamp, moved};
 use filter_sections::{max_erle, subband_bands};
 
 // A factor moves after so many updates of its subband.
 const MIN_UPDATES_FOR_CORRECTION: u32 = 50;
 
-#[tactic(auto, unfolding(crate::specs::Steps::count_with))]
-fn count_with(n: u32, updated: bool) -> u32
-    ensures { result ≡ count_with updated n }
-{
-    if updated { one_more(n) } else { n }
-}
-
-pub fn count_updates(updates: &mut [u32; 6], updated: &[bool; 6])
-    requires { length updates.old ≡ 6 }
-    ensures { updates.new ≡ tab 6 (λ s. count_with (get_or updated.now s false) (get_or updates.old s 0)) }
-{
-    for s in 0..6 {
-        updates[s] = count_with(updates[s], updated[s]);
-    }
-}
-
-// The share of the difference by which an ERLE moves.
-fn share(updated: bool, new: f32, erle: f32) -> f32
-    ensures { result ≡ Factors·share updated new erle }
-{
-    if updated {
-        if new > erle { 0.05 } else { 0.1 }
-    } else {
-        0.0
-    }
-}
-
-// A section's estimate, or the reference, with a subband's new ratio.
-#[tactic(auto, unfolding(crate::specs::Factors::erle_moved, crate::specs::Steps::moved_in))]
-fn moved_erle(erle: f32, updated: bool, new: f32, limits: ErleLimits, s: usize) -> f32
-    ensures { result ≡ moved_in limits.min limits.max_l limits.max_h s updated new erle }
-{
-    let bands = subband_bands(s);
-    let max = max_erle(limits.max_l, limits.max_h, bands.begin);
-    clamp(moved(erle, new, share(updated, new, erle)), limits.min, max)
-}
-
-pub fn move_references(
-    references: &mut [f32; 6],
-    limits: ErleLimits,
-    updated: &[bool; 6],
-    new: &[f32; 6],
+// In each subband, the entry of the section that learns, as a function makes it of the subband, of its place in the table and of what it was.
+// One `change` of the whole table was tried, and a channel's update took nearly twice as many instructions.
+fn change_learning<F: Fn(usize, usize, f32) -> f32>(
+    table: &mut [f32; 48],
+    lessons: &[Lesson; 6],
+    f: F,
 )
-    requires { length references.old ≡ 6 }
-    ensures { references.new ≡ tab 6 (λ s. moved_in limits.min limits.max_l limits.max_h s (get_or updated.now s false) (get_or new.now s nan) (get_or references.old s nan)) }
+    requires table_len { length table.old ≡ 48 }
+    requires by_index { EachOfEight lessons.now }
+    requires callable { (s j : ℕ) (x : _) → s < 6 → j < 48 → F.pre f s j x }
+    ensures { LearningChanged (F.post f) (λ s. (lesson_at lessons.now s).section) table.old table.new }
 {
-    for s in 0..6 {
-        references[s] = moved_erle(references[s], updated[s], new[s], limits, s);
+    for (s, lesson) in lessons.iter().enumerate() {
+        let j = lesson.section * 6 + s;
+        table[j] = f(s, j, table[j]);
     }
+}
+
+pub fn count_updates(updates: &mut [u32; 6], lessons: &[Lesson; 6])
+    requires { length updates.old ≡ 6 }
+    ensures { updates.new ≡ tab 6 (λ s. cond (lesson_at lessons.now s).updated (one_more (get_or updates.old s 0)) (get_or updates.old s 0)) }
+{
+    change(updates, 0, 6, |s, n| {
+        if lessons[s].ratio.is_some() {
+            one_more(n)
+        } else {
+            n
+        }
+    });
+}
+
+// A section's estimate, or the reference, with a subband's lesson: it moves by a share of the difference to the new ratio, and not at all
+// where there is none.
+#[tactic(auto, unfolding(crate::specs::Factors::erle_moved, crate::specs::Steps::moved_in))]
+fn moved_erle(erle: f32, lesson: Lesson, limits: ErleLimits, s: usize) -> f32
+    ensures { result ≡ moved_in limits.min limits.max_l limits.max_h s (lesson_in lesson) erle }
+{
+    let (new, share) = match lesson.ratio {
+        Some(ratio) => (ratio, if ratio > erle { 0.05 } else { 0.1 }),
+        None => (0.0, 0.0),
+    };
+    let max = max_erle(limits, subband_bands(s).start);
+    clamp(moved(erle, new, share), limits.min, max)
+}
+
+pub fn move_references(references: &mut [f32; 6], limits: ErleLimits, lessons: &[Lesson; 6])
+    requires { length references.old ≡ 6 }
+    ensures { references.new ≡ tab 6 (λ s. moved_in limits.min limits.max_l limits.max_h s (lesson_at lessons.now s) (get_or references.old s nan)) }
+{
+    change(references, 0, 6, |s, erle| {
+        moved_erle(erle, lessons[s], limits, s)
+    });
 }
 
 // The estimate of each subband's least active section.
-pub fn move_estimates(
-    estimates: &mut [f32; 48],
-    limits: ErleLimits,
-    updated: &[bool; 6],
-    new: &[f32; 6],
-    least: &[u32; 6],
-)
+pub fn move_estimates(estimates: &mut [f32; 48], limits: ErleLimits, lessons: &[Lesson; 6])
     requires estimates_len { length estimates.old ≡ 48 }
-    requires by_index { (s : ℕ) → get_or least.now s 0 < 8 }
-    ensures { estimates.new ≡ where_learning (λ s. get_or least.now s 0) (λ j e. moved_in limits.min limits.max_l limits.max_h (subband_of j) (get_or updated.now (subband_of j) false) (get_or new.now (subband_of j) nan) e) estimates.old }
+    requires by_index { EachOfEight lessons.now }
+    ensures { estimates.new ≡ where_learning (λ s. (lesson_at lessons.now s).section) (λ j e. moved_in limits.min limits.max_l limits.max_h (subband_of j) (lesson_at lessons.now (subband_of j)) e) estimates.old }
 {
-    for s in 0..6 {
-        let j = least[s] as usize * 6 + s;
-        estimates[j] = moved_erle(estimates[j], updated[s], new[s], limits, s);
-    }
+    change_learning(estimates, lessons, |s, _, erle| {
+        moved_erle(erle, lessons[s], limits, s)
+    });
 }
 
 #[tactic(auto, unfolding(crate::specs::Factors::factor_moved))]
@@ -99,21 +97,19 @@ pub fn move_factors(
     estimates: &[f32; 48],
     references: &[f32; 6],
     updates: &[u32; 6],
-    updated: &[bool; 6],
-    least: &[u32; 6],
+    lessons: &[Lesson; 6],
 )
     requires factors_len { length factors.old ≡ 48 }
-    requires by_index { (s : ℕ) → get_or least.now s 0 < 8 }
-    ensures { factors.new ≡ where_learning (λ s. get_or least.now s 0) (λ j f. factor_moved (get_or updated.now (subband_of j) false) (get_or updates.now (subband_of j) 0) (get_or estimates.now j nan) (get_or references.now (subband_of j) nan) f) factors.old }
+    requires by_index { EachOfEight lessons.now }
+    ensures { factors.new ≡ where_learning (λ s. (lesson_at lessons.now s).section) (λ j f. factor_moved (lesson_at lessons.now (subband_of j)).updated (get_or updates.now (subband_of j) 0) (get_or estimates.now j nan) (get_or references.now (subband_of j) nan) f) factors.old }
 {
-    for s in 0..6 {
-        let j = least[s] as usize * 6 + s;
-        factors[j] = moved_factor(
-            factors[j],
-            updated[s],
+    change_learning(factors, lessons, |s, j, factor| {
+        moved_factor(
+            factor,
+            lessons[s].ratio.is_some(),
             updates[s],
             estimates[j],
             references[s],
-        );
-    }
+        )
+    });
 }

@@ -9,26 +9,19 @@ mod subbands;
 ghost use Rattle.std.specs.Prelude.{◌≡◌, ◌≤◌};
 ghost use Rattle.correction_factors.specs.Factors.{fresh_factors, lesson_of, learnt};
 
+use aec3_common::ErleLimits;
 use learning::{count_updates, move_estimates, move_factors, move_references};
-use lessons::{least_active, new_ratios, updated_subbands};
+use lessons::lessons_of;
 pub use streams::{band_factors, copy_last, correct_stream};
 pub use subbands::subband_sums;
 
 // Estimates and factors stand section by section, eight times six subbands; references and updates for each subband.
-#[derive(Clone, Copy)]
+#[derive(Clone, Copy, Debug)]
 pub struct CorrectionFactors {
     pub erle_estimators: [f32; 48],
     pub erle_ref: [f32; 6],
     pub correction_factors: [f32; 48],
     pub num_updates: [u32; 6],
-}
-
-// The limits of an ERLE: the minimum, and the maxima of the lower and the upper bands.
-#[derive(Clone, Copy)]
-pub struct ErleLimits {
-    pub min: f32,
-    pub max_l: f32,
-    pub max_h: f32,
 }
 
 impl CorrectionFactors {
@@ -44,7 +37,8 @@ impl CorrectionFactors {
         }
     }
 
-    // One update of a converged channel, by its active sections and the subband sums of render, capture and residual.
+    // One update of a converged channel, by its active sections and the subband sums of render, capture and residual. Six parameters: a
+    // struct of what an update goes by would be made for this one call and taken apart in it.
     pub fn update(
         mut self,
         limits: ErleLimits,
@@ -57,22 +51,16 @@ impl CorrectionFactors {
         requires { (1 ≤ sections) × (sections ≤ 8) }
         ensures { result ≡ learnt limits.min limits.max_l limits.max_h (lesson_of sections active.now x2.now y2.now e2.now) self }
     {
-        let least = least_active(active, sections);
-        let updated = updated_subbands(x2, e2);
-        let new = new_ratios(&updated, y2, e2);
-        count_updates(&mut self.num_updates, &updated);
-        move_estimates(&mut self.erle_estimators, limits, &updated, &new, &least);
-        move_references(&mut self.erle_ref, limits, &updated, &new);
-        let estimates = self.erle_estimators;
-        let references = self.erle_ref;
-        let updates = self.num_updates;
+        let lessons = lessons_of(sections, active, x2, y2, e2);
+        count_updates(&mut self.num_updates, &lessons);
+        move_estimates(&mut self.erle_estimators, limits, &lessons);
+        move_references(&mut self.erle_ref, limits, &lessons);
         move_factors(
             &mut self.correction_factors,
-            &estimates,
-            &references,
-            &updates,
-            &updated,
-            &least,
+            &self.erle_estimators,
+            &self.erle_ref,
+            &self.num_updates,
+            &lessons,
         );
         self
     }

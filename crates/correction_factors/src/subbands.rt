@@ -1,32 +1,22 @@
-// Subband sums of a spectrum.
-ghost use Rattle.std.specs.Prelude.{◌≡◌, ◌-◌, ◌+◌, ◌≤◌, length, get_or};
-ghost use Rattle.std.specs.Float.{nan};
-ghost use Rattle.aec3_common.specs.Lists.{tab};
-ghost use Rattle.aec3_common.specs.Spectra.{sum};
-ghost use Rattle.correction_factors.specs.Factors.{subband_sums};
+// Subbands of a spectrum, and of what stands beside it band by band.
+ghost use Rattle.std.specs.Prelude.{◌≡◌, length};
+ghost use Rattle.correction_factors.specs.Factors.{of_subband, subband_sums};
 
+use aec3_common::spectra::sum;
 use filter_sections::subband_bands;
+use std::array;
 
-// The powers of the bands from one to below another, added up in order.
-fn sum_of_bands(spectrum: &[f32], begin: usize, end: usize) -> f32
-    requires { end ≤ length spectrum.now }
-    ensures { result ≡ sum (tab (end - begin) (λ j. get_or spectrum.now (begin + j) nan)) }
+// The entries of a subband's bands.
+pub(crate) fn in_subband<T: Copy>(bands: &[T], subband: usize) -> &[T]
+    requires { length bands.now ≡ 65 }
+    ensures { (d : T) → result.now ≡ of_subband d bands.now subband }
 {
-    let mut total = 0.0;
-    for k in begin..end {
-        total = total + spectrum[k];
-    }
-    total
+    &bands[subband_bands(subband)]
 }
 
 pub fn subband_sums(spectrum: &[f32]) -> [f32; 6]
     requires { length spectrum.now ≡ 65 }
     ensures { result ≡ subband_sums spectrum.now }
 {
-    let mut r = [0.0; 6];
-    for s in 0..6 {
-        let bands = subband_bands(s);
-        r[s] = sum_of_bands(spectrum, bands.begin, bands.end);
-    }
-    r
+    array::from_fn(|subband| sum(in_subband(spectrum, subband)))
 }

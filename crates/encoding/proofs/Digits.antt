@@ -59,12 +59,8 @@ hex-last (suc k) n h =
     let p : suc k - 1 ≡ k = omega arith in
     rw p
 
--- the decimal digits before the last one of n, at most k
-abbrev pub before_last : ℕ → ℕ → List ℕ
-before_last k n = cond (ltb n 10) [] (decimal_digits k (n / 10))
-
--- a number of two digits or more has the same before its last that its tenth has in all
-pub decimal-last : (k n : ℕ) → 0 < k → 10 ≤ n → before_last k n ≡ before_last (k - 1) (n / 10) ++ (digit (n / 10 % 10) ∷ [])
+-- the last k decimal digits of a number of two digits or more are its tenth's, and the last one
+pub decimal-last : (k n : ℕ) → 0 < k → 10 ≤ n → decimal_digits k n ≡ decimal_digits (k - 1) (n / 10) ++ (digit (n % 10) ∷ [])
 unfolding decimal_digits
 decimal-last zero n h b = absurd (omega arith)
 decimal-last (suc k) n h b =
@@ -72,16 +68,14 @@ decimal-last (suc k) n h b =
     rw (le-ltb n 10 b, p)
 
 -- one of one digit has nothing before it
-pub decimal-short : (k n : ℕ) → n < 10 → before_last k n ≡ []
-decimal-short k n h = rw (lt-ltb n 10 h)
-
-pub decimal-none : (k n : ℕ) → k ≤ 0 → before_last k n ≡ []
+pub decimal-short : (k n : ℕ) → 0 < k → n < 10 → decimal_digits k n ≡ [] ++ (digit (n % 10) ∷ [])
 unfolding decimal_digits
-decimal-none zero n h = same (ltb n 10)
-  where
-    same : (t : Bool) → cond {A = List ℕ} t [] [] ≡ []
-    same true = refl
-    same false = refl
+decimal-short zero n h b = absurd (omega arith)
+decimal-short (suc k) n h b = rw (lt-ltb n 10 b)
+
+pub decimal-none : (k n : ℕ) → k ≤ 0 → decimal_digits k n ≡ []
+unfolding decimal_digits
+decimal-none zero n h = refl
 decimal-none (suc k) n h = absurd (omega arith)
 
 -- how long the two texts are

@@ -1,11 +1,10 @@
 -- Which patterns of 32 bits are a NaN's, and which numbers differ from themselves.
-use mathlib.Core.Path.{◌≡◌, refl, sym, ap, ◌∙◌, subst}
+use mathlib.Core.Path.{◌≡◌, refl, sym, ◌∙◌, subst}
 use mathlib.Core.Bool.{Bool, true, false, not, false≢true}
 use Prim.Native.Nat.{ℕ, ◌%◌, ◌≤◌, ◌<◌}
 use lib.Dec.{T}
-use lib.Ieee.{Float, nan, inf, fin, binary32, of_bits, to_bits, is_nan, nan_bits, eq, ne}
+use lib.Ieee.{Float, nan, inf, fin, binary32, of_bits, to_bits, is_nan, nan_bits}
 use lib.Ieee.Bits.{nan_bits_is, nan_bits_above}
-use lib.Ieee.Compare.{differs_from_itself}
 use borrow.Author.Tests.{lt-ltb, le-ltb}
 
 fails : {t : Bool} → t ≡ false → T (not t)
@@ -25,14 +24,7 @@ is-nan (fin s m z) e = absurd (false≢true e)
 pub nan-bits : (n : ℕ) → 0x7f80_0000 < n % 0x8000_0000 → nan ≡ of_bits binary32 n
 nan-bits n h = sym (is-nan (of_bits binary32 n) (sym (nan_bits_is binary32 n) ∙ nan_bits_above binary32 n ∙ lt-ltb _ _ h))
 
--- what equals itself is no NaN
-pub equals_itself : (x : Float) → eq x x ≡ true → T (not (is_nan x))
-unfolding is_nan eq
-equals_itself nan e = absurd (false≢true e)
-equals_itself (inf s) e = tt
-equals_itself (fin s m z) e = tt
-
--- and what does not is the NaN
-pub differs : (x : Float) → eq x x ≡ false → 0x7fc0_0000 ≡ to_bits binary32 x
-unfolding to_bits ne
-differs x e = ap (to_bits binary32) (sym (differs_from_itself x (fails e)))
+-- the bits of each are the same
+pub bits-nan : (x : Float) → is_nan x ≡ true → 0x7fc0_0000 ≡ to_bits binary32 x
+unfolding to_bits
+bits-nan x e = rw (is-nan x e)

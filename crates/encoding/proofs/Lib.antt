@@ -2,5 +2,4 @@ pub mod Past
 pub mod Floats
 pub mod Digits
 pub mod Reading
-pub mod Copying
 pub mod Writing

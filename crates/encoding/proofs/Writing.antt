@@ -7,6 +7,7 @@ use native.Mathlib.Omega.{arith}
 use lib.ListN.{length, take, drop, length-append, length-drop, take-append-drop}
 use lib.Seq.{length-take-le, take_at, drop_at, drop-drop}
 use borrow.Author.Tests.{le-leb, lt-leb}
+use borrow.Rule.Slice.PartMut.{put_mid}
 use Rattle.encoding.specs.Text.{laid, written, after}
 
 module _ (d : List ℕ) (at : ℕ) (s : List ℕ) where
@@ -41,6 +42,11 @@ module _ (d : List ℕ) (at : ℕ) (s : List ℕ) where
 
     pub no_room : (d ≡ written d at s) × (at ≡ after d at s)
     no_room = (sym written-full, sym after-full)
+
+-- a part of a list that a text is copied over
+pub put_mid-laid : (d : List ℕ) (at k : ℕ) (s : List ℕ) → k ≡ length s → put_mid at k d s ≡ laid d at s
+unfolding laid
+put_mid-laid d at k s e = rw (e, append_assoc (take at d) s (drop (at + length s) d), drop-drop (length s) at d)
 
 -- What a write that had room gave: the list e and the next place.
 pub record Wrote (d : List ℕ) (at : ℕ) (s e : List ℕ) (next : ℕ) : Type 0 where

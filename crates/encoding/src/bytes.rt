@@ -10,47 +10,29 @@ const INFINITY_BITS: u32 = 0x7f80_0000;
 // The bits of the one NaN.
 const NAN_BITS: u32 = 0x7fc0_0000;
 
-fn widened(x: u8) -> u32
-    ensures value { result ≡ x }
-    ensures upper_bound { result < 256 }
-{
-    x as u32
-}
-
 // The byte at i.
 pub fn byte_at(s: &[u8], i: usize) -> u32
     ensures value { result ≡ byte_at s.now i }
     ensures upper_bound { result < 256 }
 {
-    if i < s.len() { widened(s[i]) } else { 0 }
+    s.get(i).map_or(0, |&byte| u32::from(byte))
 }
 
-// The number of 16 bits whose bytes stand at i and i + 1. Where i is past the end there is nothing to read, and i + 1
-// might not be a usize.
+// The number of 16 bits whose bytes stand at i and i + 1. At the greatest place, which is past every end, i + 1 would be no usize.
 pub fn half_at(s: &[u8], i: usize) -> u32
     ensures value { result ≡ half_at s.now i }
     ensures upper_bound { result < 65536 }
 {
-    if i < s.len() {
-        let low = byte_at(s, i);
-        let high = byte_at(s, i + 1);
-        low + 256 * high
-    } else {
-        0
-    }
+    byte_at(s, i) + 256 * byte_at(s, i.saturating_add(1))
 }
 
 // The number of 32 bits whose bytes stand at i to i + 3.
 pub fn word_at(s: &[u8], i: usize) -> u32
     ensures { result ≡ word_at s.now i }
 {
-    if i < s.len() {
-        let low = half_at(s, i);
-        let high = half_at(s, i + 2);
-        low + 65536 * high
-    } else {
-        0
-    }
+    let low = half_at(s, i);
+    let high = half_at(s, i.saturating_add(2));
+    low + 65536 * high
 }
 
 // The binary32 number with these bits; each NaN's pattern gives the one NaN.
@@ -60,7 +42,7 @@ pub fn float_of(bits: u32) -> f32
     if bits % 0x8000_0000 <= INFINITY_BITS {
         f32::from_bits(bits)
     } else {
-        0.0 / 0.0
+        f32::NAN
     }
 }
 
@@ -68,5 +50,5 @@ pub fn float_of(bits: u32) -> f32
 pub fn bits_of(x: f32) -> u32
     ensures { result ≡ to_bits binary32 x }
 {
-    if x == x { f32::to_bits(x) } else { NAN_BITS }
+    if x.is_nan() { NAN_BITS } else { x.to_bits() }
 }

@@ -7,8 +7,11 @@ ghost use Rattle.erl_bands.specs.Steps.{new_erl, new_erls, erl_by, hold_by, erls
 use crate::figure::{HOLD_BLOCKS, doubled, moved_down};
 use aec3_common::X2_BAND_ENERGY_THRESHOLD;
 use aec3_common::counts::fallen;
+use aec3_common::entries::change;
+use std::array;
 
-// The ratio that a band learns from. Where render is not above the threshold it is infinite, which is below no ERL.
+// The ratio that a band learns from. Where render is not above the threshold it is infinite, which is below no ERL: unlike `None` of an
+// `Option`, it needs no case of its own where it is compared.
 #[tactic(auto, unfolding(crate::specs::Steps::new_erl))]
 fn new_erl(render: f32, capture: f32) -> f32
     ensures { result ≡ new_erl render capture }
@@ -16,7 +19,7 @@ fn new_erl(render: f32, capture: f32) -> f32
     if render > X2_BAND_ENERGY_THRESHOLD {
         capture / render
     } else {
-        1.0 / 0.0
+        f32::INFINITY
     }
 }
 
@@ -24,13 +27,10 @@ fn new_erl(render: f32, capture: f32) -> f32
 pub fn new_erls(render: &[f32; 65], capture: &[f32; 65]) -> [f32; 65]
     ensures { result ≡ new_erls render.now capture.now }
 {
-    let mut r = [0.0; 65];
-    for k in 0..65 {
-        r[k] = new_erl(render[k], capture[k]);
-    }
-    r
+    array::from_fn(|k| new_erl(render[k], capture[k]))
 }
 
+#[tactic(auto, unfolding(crate::specs::Steps::hold_by, crate::specs::Figure::learnt_hold))]
 fn hold_after(new: f32, erl: f32, hold: i32) -> i32
     ensures { result ≡ hold_by new erl hold }
 {
@@ -49,6 +49,7 @@ fn learnt_erl(new: f32, erl: f32) -> f32
 }
 
 // The ERL beside the hold that it has after the block.
+#[tactic(auto, unfolding(crate::specs::Steps::erl_by))]
 fn erl_after(new: f32, erl: f32, hold: i32) -> f32
     ensures { result ≡ erl_by new erl hold }
 {
@@ -56,14 +57,10 @@ fn erl_after(new: f32, erl: f32, hold: i32) -> f32
 }
 
 // The holds of bands 1 to 63 after the block.
-pub fn moved_holds<'a>(holds: &'a [i32; 63], erl: &'a [f32; 65], new: &[f32; 65]) -> [i32; 63]
+pub fn moved_holds(holds: &[i32; 63], erl: &[f32; 65], new: &[f32; 65]) -> [i32; 63]
     ensures { result ≡ holds_by new.now erl.now holds.now }
 {
-    let mut r = [0; 63];
-    for k in 0..63 {
-        r[k] = hold_after(new[k + 1], erl[k + 1], holds[k]);
-    }
-    r
+    array::from_fn(|k| hold_after(new[k + 1], erl[k + 1], holds[k]))
 }
 
 // The ERLs of bands 1 to 63 after the block, beside their holds after it. Bands 0 and 64 are left at 0.
@@ -71,8 +68,11 @@ pub fn moved_erl(erl: &[f32; 65], holds: &[i32; 63], new: &[f32; 65]) -> [f32; 6
     ensures { result ≡ erls_by new.now erl.now holds.now }
 {
     let mut r = [0.0; 65];
-    for k in 1..64 {
-        r[k] = erl_after(new[k], erl[k], holds[k - 1]);
-    }
+    change(
+        &mut r,
+        1,
+        64,
+        |k, _| erl_after(new[k], erl[k], holds[k - 1]),
+    );
     r
 }

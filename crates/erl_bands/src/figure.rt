@@ -2,7 +2,7 @@
 ghost use Rattle.std.specs.Prelude.{◌≡◌, true};
 ghost use Rattle.aec3_common.specs.Binary32.{sum_threshold};
 ghost use Rattle.aec3_common.specs.Spectra.{sum as Spectra·sum};
-ghost use Rattle.erl_bands.specs.Figure.{learnt_erl, learns as Figure·learns, learnt as Figure·learnt, doubled as Figure·doubled, rested as Figure·rested, after_block};
+ghost use Rattle.erl_bands.specs.Figure.{learnt_erl, learnt as Figure·learnt, doubled as Figure·doubled, rested as Figure·rested, after_block};
 
 use aec3_common::counts::fallen;
 use aec3_common::spectra::sum;
@@ -17,18 +17,6 @@ pub const HOLD_BLOCKS: i32 = 1000;
 // From here down a hold has run out.
 const RUN_OUT: i32 = 0;
 
-#[derive(Clone, Copy)]
-pub struct Figure {
-    pub erl: f32,
-    pub hold: i32,
-}
-
-fn learns(threshold: f32, render: f32, capture: f32, erl: f32) -> bool
-    ensures { result ≡ Figure·learns threshold render capture erl }
-{
-    (render > threshold) & (capture / render < erl)
-}
-
 // The ERL moved towards a new one below it.
 #[tactic(auto, unfolding(crate::specs::Figure::learnt_erl))]
 pub(crate) fn moved_down(erl: f32, new: f32) -> f32
@@ -37,20 +25,7 @@ pub(crate) fn moved_down(erl: f32, new: f32) -> f32
     larger(moved(erl, new, 0.1), MIN_ERL)
 }
 
-#[tactic(auto, unfolding(crate::specs::Figure::learnt, crate::specs::Figure::learnt_erl, crate::specs::Figure::learnt_hold))]
-fn learnt(threshold: f32, render: f32, capture: f32, f: Figure) -> Figure
-    ensures { result ≡ Figure·learnt threshold render capture f }
-{
-    if learns(threshold, render, capture, f.erl) {
-        Figure {
-            erl: moved_down(f.erl, capture / render),
-            hold: HOLD_BLOCKS,
-        }
-    } else {
-        f
-    }
-}
-
+#[tactic(auto, unfolding(crate::specs::Figure::doubled))]
 pub(crate) fn doubled(hold: i32, erl: f32) -> f32
     ensures { result ≡ Figure·doubled hold erl }
 {
@@ -61,32 +36,49 @@ pub(crate) fn doubled(hold: i32, erl: f32) -> f32
     }
 }
 
-fn rested(f: Figure) -> Figure
-    ensures { result ≡ Figure·rested f }
-{
-    let hold = fallen(f.hold);
-    Figure {
-        erl: doubled(hold, f.erl),
-        hold,
+#[derive(Clone, Copy, Debug, PartialEq)]
+pub struct Figure {
+    pub erl: f32,
+    pub hold: i32,
+}
+
+impl Figure {
+    #[tactic(auto, unfolding(crate::specs::Figure::learnt, crate::specs::Figure::learnt_erl, crate::specs::Figure::learnt_hold))]
+    fn learnt(self, threshold: f32, render: f32, capture: f32) -> Figure
+        ensures { result ≡ Figure·learnt threshold render capture self }
+    {
+        if (render > threshold) & (capture / render < self.erl) {
+            Figure {
+                erl: moved_down(self.erl, capture / render),
+                hold: HOLD_BLOCKS,
+            }
+        } else {
+            self
+        }
     }
-}
 
-// A figure one block later.
-#[tactic(auto, unfolding(crate::specs::Figure::after_block))]
-fn after_block(threshold: f32, render: f32, capture: f32, f: Figure) -> Figure
-    ensures { result ≡ after_block threshold render capture f }
-{
-    rested(learnt(threshold, render, capture, f))
-}
+    #[tactic(auto, unfolding(crate::specs::Figure::rested))]
+    fn rested(self) -> Figure
+        ensures { result ≡ Figure·rested self }
+    {
+        let hold = fallen(self.hold);
+        Figure {
+            erl: doubled(hold, self.erl),
+            hold,
+        }
+    }
 
-// The time-domain figure one block later. The captures are added up only where their sum is looked at.
-pub fn time_domain_after(f: Figure, render: &[f32], capture: &[f32]) -> Figure
-    ensures { result ≡ after_block sum_threshold (Spectra·sum render.now) (Spectra·sum capture.now) f }
-{
-    let render_sum = sum(render);
-    if render_sum > X2_SUM_ENERGY_THRESHOLD {
-        after_block(X2_SUM_ENERGY_THRESHOLD, render_sum, sum(capture), f)
-    } else {
-        rested(f)
+    // The time-domain figure one block later. The captures are added up only where their sum is looked at.
+    #[tactic(auto, unfolding(crate::specs::Figure::after_block, crate::specs::Figure::learnt, crate::specs::Figure::learnt_erl, crate::specs::Figure::learnt_hold))]
+    pub fn time_domain_after(self, render: &[f32], capture: &[f32]) -> Figure
+        ensures { result ≡ after_block sum_threshold (Spectra·sum render.now) (Spectra·sum capture.now) self }
+    {
+        let render_sum = sum(render);
+        if render_sum > X2_SUM_ENERGY_THRESHOLD {
+            self.learnt(X2_SUM_ENERGY_THRESHOLD, render_sum, sum(capture))
+                .rested()
+        } else {
+            self.rested()
+        }
     }
 }

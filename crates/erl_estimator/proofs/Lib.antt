@@ -1,4 +1,3 @@
-mod Judged
 pub mod Range
 mod Steps
 mod Updates

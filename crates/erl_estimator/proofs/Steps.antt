@@ -13,7 +13,7 @@ use lib.ListN.{length, get_or, take, drop, drop_of_length-le}
 use lib.Seq.{drop-cons}
 use Rattle.aec3_common.specs.Binary32.{energy_threshold, larger}
 use Rattle.aec3_common.specs.Lists.{tab}
-use Rattle.aec3_common.specs.Spectra.{part, band_of, inner_band, shown_band, ends_copied, flagged, greatest_from}
+use Rattle.aec3_common.specs.Spectra.{band_of, inner_band, shown_band, ends_copied, flagged, greatest_from}
 use Rattle.aec3_common.proofs.Choices.{and_left, and_right}
 use Rattle.aec3_common.proofs.Bands.{ends-are, shown-inner}
 use Rattle.aec3_common.proofs.Tables.{tab-is, tab-same, get_or-tab, length-tab}
@@ -21,7 +21,7 @@ use Rattle.erl_bands.specs.declared.figure.Figure.{Figure}
 use Rattle.erl_bands.specs.Figure.{after_block}
 use Rattle.erl_bands.specs.Steps.{new_erl, new_erls, erl_by, hold_by, erls_by, holds_by}
 use Rattle.erl_bands.proofs.Steps.{figure-by}
-use Rattle.erl_estimator.specs.declared.reduce.FirstConverged.TheVariants.{Channel, Nothing}
+use Rattle.std.specs.Prelude.{Some, None}
 use Rattle.erl_estimator.specs.Erl.{band_after, greatest_over, reduced}
 use Rattle.erl_estimator.specs.First.{first_from}
 
@@ -32,22 +32,19 @@ pub record Walked (flags : List Bool) (ch : ℕ) : Type 0 where
   pub to : ch ≤ length flags
   pub rest : first_from 0 flags ≡ first_from ch (drop ch flags)
 
-pub walked_none : (flags : List Bool) → Walked flags 0
-walked_none flags = record { to = omega arith; rest = refl }
-
 module _ {flags : List Bool} {ch : ℕ} (w : Walked flags ch) where
   -- what the walk sees at ch
-  seen : ch < length flags → first_from 0 flags ≡ cond (get_or flags ch false) (Channel ch) (first_from (suc ch) (drop (suc ch) flags))
+  seen : ch < length flags → first_from 0 flags ≡ cond (get_or flags ch false) (Some ch) (first_from (suc ch) (drop (suc ch) flags))
   unfolding first_from
   seen h = w.rest ∙ ap (first_from ch) (drop-cons flags ch false h)
 
   pub walked_more : ch < length flags → get_or flags ch false ≡ false → Walked flags (ch + 1)
   walked_more h e = record { to = omega arith; rest = rw add-one (seen h ∙ simp e) }
 
-  pub walked_to : ch < length flags → get_or flags ch false ≡ true → Channel ch ≡ first_from 0 flags
+  pub walked_to : ch < length flags → get_or flags ch false ≡ true → Some ch ≡ first_from 0 flags
   walked_to h e = sym (seen h ∙ simp e)
 
-  pub walked-past : length flags ≤ ch → Nothing ≡ first_from 0 flags
+  pub walked-past : length flags ≤ ch → None ≡ first_from 0 flags
   unfolding first_from
   walked-past h = sym (w.rest ∙ ap (first_from ch) (drop_of_length-le flags h))
 
@@ -60,9 +57,9 @@ record FirstOf (ch : ℕ) (flags : List Bool) (first : ℕ) : Type 0 where
   pub below : after < length flags
   pub all : flagged ch flags ≡ first ∷ flagged (suc first) (drop (suc after) flags)
 
-first_of : (ch : ℕ) (flags : List Bool) (first : ℕ) → first_from ch flags ≡ Channel first → FirstOf ch flags first
+first_of : (ch : ℕ) (flags : List Bool) (first : ℕ) → first_from ch flags ≡ Some first → FirstOf ch flags first
 unfolding first_from flagged
-first_of ch [] first e = absurd (let z : ◌≡◌ {A = ℕ} 0 1 = cc in omega arith)
+first_of ch [] first e = absurd cc
 first_of ch (true ∷ flags) first e =
     let same : first ≡ ch = cc in
     record {
@@ -80,16 +77,16 @@ first_of ch (false ∷ flags) first e =
       all = r.all;
     }
 
-none_of : (ch : ℕ) (flags : List Bool) → first_from ch flags ≡ Nothing → flagged ch flags ≡ []
+none_of : (ch : ℕ) (flags : List Bool) → first_from ch flags ≡ None → flagged ch flags ≡ []
 unfolding first_from flagged
 none_of ch [] e = refl
-none_of ch (true ∷ flags) e = absurd (let z : ◌≡◌ {A = ℕ} 0 1 = cc in omega arith)
+none_of ch (true ∷ flags) e = absurd cc
 none_of ch (false ∷ flags) e = none_of (suc ch) flags e
 
-pub no-channel : (flags : List Bool) → first_from 0 flags ≡ Nothing → flagged 0 flags ≡ []
+pub no-channel : (flags : List Bool) → first_from 0 flags ≡ None → flagged 0 flags ≡ []
 no-channel flags e = none_of 0 flags e
 
-module _ (flags : List Bool) (first : ℕ) (e : first_from 0 flags ≡ Channel first) where
+module _ (flags : List Bool) (first : ℕ) (e : first_from 0 flags ≡ Some first) where
   pub first_below : first < length flags
   first_below = let r = first_of 0 flags first e in omega (arith, r.is, r.below)
 
@@ -110,20 +107,7 @@ pub record Raised (spectra : List Float) (flags : List Bool) (first : ℕ) (r : 
       → greatest_from (get_or r k nan) (map (λ c. band_of spectra c k) (flagged ch (drop ch flags)))
       ≡ greatest_over spectra (first ∷ flagged (suc first) (drop (suc first) flags)) k
 
-pub raised-none :
-    (spectra : List Float) (flags : List Bool) (first : ℕ)
-    → first < length flags → length (part spectra first) ≡ 65 → Raised spectra flags first (part spectra first) (first + 1)
-raised-none spectra flags first h long = record { to = omega arith; long = long; rest = λ k b. rw add-one refl }
-
-either-long : (t : Bool) (f : ℕ → Float) (r : List Float) → length r ≡ 65 → length (cond t (tab 65 f) r) ≡ 65
-either-long true f r h = length-tab 65 f
-either-long false f r h = h
-
 module _ {spectra : List Float} {flags : List Bool} {first : ℕ} {r : List Float} {ch : ℕ} (s : Raised spectra flags first r ch) where
-  -- r raised by channel ch
-  by : ℕ → Float
-  by k = larger (get_or r k nan) (band_of spectra ch k)
-
   -- what is left from ch on, by the flag there
   left :
       (t : Bool) → get_or flags ch false ≡ t → ch < length flags
@@ -131,30 +115,29 @@ module _ {spectra : List Float} {flags : List Bool} {first : ℕ} {r : List Floa
   unfolding flagged
   left t e h = ap (flagged ch) (drop-cons flags ch false h) ∙ simp e
 
-  more-at :
+  -- the greatest over them and r, by the flag there
+  left-at :
       (t : Bool) → get_or flags ch false ≡ t → ch < length flags → (k : ℕ) → k < 65
-      → greatest_from (get_or (cond t (tab 65 (λ k. larger (get_or r k nan) (band_of spectra ch k))) r) k nan)
-      (map (λ c. band_of spectra c k) (flagged (suc ch) (drop (suc ch) flags)))
+      → greatest_from (get_or r k nan) (map (λ c. band_of spectra c k) (cond t (ch ∷ flagged (suc ch) (drop (suc ch) flags)) (flagged (suc ch) (drop (suc ch) flags))))
       ≡ greatest_over spectra (first ∷ flagged (suc first) (drop (suc first) flags)) k
-  unfolding greatest_from
-  more-at true e h k b =
-      let others = map (λ c. band_of spectra c k) (flagged (suc ch) (drop (suc ch) flags)) in
-      ap (λ (x : Float). greatest_from x others) (get_or-tab 65 (λ j. larger (get_or r j nan) (band_of spectra ch j)) k nan b)
-      ∙ sym (ap (λ (l : List ℕ). greatest_from (get_or r k nan) (map (λ c. band_of spectra c k) l)) (left true e h))
-      ∙ s.rest k b
-  more-at false e h k b =
-      sym (ap (λ (l : List ℕ). greatest_from (get_or r k nan) (map (λ c. band_of spectra c k) l)) (left false e h)) ∙ s.rest k b
+  left-at t e h k b =
+      sym (ap (λ (l : List ℕ). greatest_from (get_or r k nan) (map (λ c. band_of spectra c k) l)) (left t e h)) ∙ s.rest k b
 
   pub raised-more :
-      {r' : List Float} → ch < length flags
-      → r' ≡ cond (get_or flags ch false) (tab 65 (λ k. larger (get_or r k nan) (band_of spectra ch k))) r
-      → Raised spectra flags first r' (ch + 1)
-  raised-more {r' = r'} h e =
+      {r' : List Float} → ch < length flags → get_or flags ch false ≡ true
+      → r' ≡ tab 65 (λ k. larger (get_or r k nan) (band_of spectra ch k)) → Raised spectra flags first r' (ch + 1)
+  unfolding greatest_from
+  raised-more {r' = r'} h e same =
       record {
         to = omega arith;
-        long = rw e (either-long (get_or flags ch false) (λ k. larger (get_or r k nan) (band_of spectra ch k)) r s.long);
-        rest = λ k b. rw (e, add-one) (more-at (get_or flags ch false) refl h k b);
+        long = rw same (length-tab 65 (λ k. larger (get_or r k nan) (band_of spectra ch k)));
+        rest = λ k b.
+            rw (same, add-one, get_or-tab 65 (λ j. larger (get_or r j nan) (band_of spectra ch j)) k nan b) (left-at true e h k b);
       }
+
+  pub raised-same : {r' : List Float} → ch < length flags → get_or flags ch false ≡ false → r' ≡ r → Raised spectra flags first r' (ch + 1)
+  raised-same {r' = r'} h e same =
+      record { to = omega arith; long = rw same s.long; rest = λ k b. rw (same, add-one) (left-at false e h k b) }
 
   pub raised_all :
       length flags ≤ ch → r ≡ reduced spectra (first ∷ flagged (suc first) (drop (suc first) flags))
@@ -168,7 +151,7 @@ module _ {spectra : List Float} {flags : List Bool} {first : ℕ} {r : List Floa
 -- one or two channels, all flagged
 pub all-stand :
     (n : ℕ) → 0 < n → n ≤ 2
-    → 0 ∷ flagged 1 (drop 1 (take (n - 0) (drop 0 (true ∷ true ∷ [])))) ≡ tab n (λ ch. ch)
+    → 0 ∷ flagged 1 (drop 1 (take n (true ∷ true ∷ []))) ≡ tab n (λ ch. ch)
 unfolding flagged tab
 all-stand zero some few = absurd (omega arith)
 all-stand (suc zero) some few = refl

@@ -1,6 +1,7 @@
 -- Echo return loss: the ERL of each band, and the time-domain ERL.
 use Rattle.std.specs.Prelude.{Bool, cond, ◌&&◌, ◌||◌, List, [], ◌∷◌, ◌++◌, map, ℕ, suc, ◌-◌, ◌*◌, ltb, eqb, ℤ, pos, Float, length, get_or}
 use Rattle.std.specs.Float.{nan}
+use Rattle.aec3_common.specs.Answers.{Answered}
 use Rattle.aec3_common.specs.Lists.{tab}
 use Rattle.aec3_common.specs.Binary32.{energy_threshold, sum_threshold}
 use Rattle.aec3_common.specs.Calls.{value_refusal}
@@ -11,7 +12,6 @@ use Rattle.aec3_common.specs.Spectra.{band_of, shown_band, flagged, sum, greates
 use Rattle.erl_bands.specs.declared.figure.Figure.{Figure}
 use Rattle.erl_bands.specs.Figure.{max_erl, after_block}
 use Rattle.erl_estimator.specs.declared.ErlEstimator.{ErlEstimator}
-use Rattle.erl_estimator.specs.declared.ErlUpdate.{ErlUpdate}
 
 -- ---- spectra reduced to their per-band greatest over some channels
 
@@ -104,7 +104,7 @@ update_refusal captures renders converged render capture =
     (value_refusal (render ++ capture)))
 
 -- The answer: the next state and 0, or the state as it was and the refusal.
-unfoldable pub update_answer : ErlEstimator → ℕ → ℕ → List Bool → List Float → List Float → ErlUpdate
+unfoldable pub update_answer : ErlEstimator → ℕ → ℕ → List Bool → List Float → List Float → Answered ErlEstimator
 update_answer s captures renders converged render capture =
     let n = update_refusal captures renders converged render capture in
     record { state = cond (eqb n accepted) (updated s renders converged render capture) s; refused = n }

@@ -1,3 +1,4 @@
+pub mod Blocks
 pub mod Erl
 pub mod First
 pub mod Range

@@ -1,22 +1,25 @@
 // Echo return loss: the ERL of each band, and the time-domain ERL.
 #![tactic(auto)]
 
-mod judge;
+mod block;
 mod reduce;
 
-ghost use Rattle.std.specs.Prelude.{◌≡◌, ◌*◌, ◌≤◌, ◌<◌, length};
-ghost use Rattle.erl_estimator.specs.Erl.{started, counted as Erl·counted, after_reset, learnt_from, updated as Erl·updated, update_answer};
+ghost use Rattle.std.specs.Prelude.{◌≡◌};
+ghost use Rattle.aec3_common.specs.Answers.{told};
+ghost use Rattle.aec3_common.specs.Refusal.{accepted};
+ghost use Rattle.erl_estimator.specs.Blocks.{with_block};
+ghost use Rattle.erl_estimator.specs.Erl.{started, counted as Erl·counted, after_reset, learnt_from, updated as Erl·updated, update_refusal, update_answer};
 ghost use Rattle.erl_estimator.specs.Range.{FiguresInRange};
 
+use aec3_common::Answer;
 use aec3_common::counts::one_more;
-use aec3_common::refusal::ACCEPTED;
 use aec3_common::spectra::copy_ends;
+pub use block::ErlBlock;
 use erl_bands::bands::{moved_erl, moved_holds, new_erls};
-use erl_bands::figure::{Figure, MAX_ERL, time_domain_after};
-use judge::update_refusal;
-use reduce::{FirstConverged, all_reduced, first_converged, reduced_from};
+use erl_bands::figure::{Figure, MAX_ERL};
+use reduce::{all_reduced, first_converged, reduced_from};
 
-#[derive(Clone, Copy)]
+#[derive(Clone, Copy, Debug, PartialEq)]
 pub struct ErlEstimator {
     pub erl: [f32; 65],
     pub hold_counters: [i32; 63],
@@ -24,13 +27,6 @@ pub struct ErlEstimator {
     pub hold_counter_time_domain: i32,
     pub startup_phase_length_blocks: u32,
     pub blocks_since_reset: u32,
-}
-
-// The next state and 0, or the state as it was and the number under which the call is turned away.
-#[derive(Clone, Copy)]
-pub struct ErlUpdate {
-    pub state: ErlEstimator,
-    pub refused: u32,
 }
 
 impl ErlEstimator {
@@ -58,72 +54,41 @@ impl ErlEstimator {
         self
     }
 
-    // One block: flags, renders and captures of all channels, each spectrum 65 numbers. 2, 5 and 6 are turned away.
-    pub fn update(
-        self,
-        num_capture_channels: usize,
-        num_render_channels: usize,
-        converged_filters: &[bool],
-        render_spectra: &[f32],
-        capture_spectra: &[f32],
-    ) -> ErlUpdate
-        ensures { result ≡ update_answer self num_capture_channels num_render_channels converged_filters.now render_spectra.now capture_spectra.now }
+    // One block. 2, 5 and 6 are turned away.
+    #[tactic(auto, unfolding(crate::specs::Erl::update_answer))]
+    pub fn update(self, block: &ErlBlock) -> Answer<ErlEstimator>
+        ensures { told result ≡ with_block (update_answer self) block.now }
     {
-        let refused = update_refusal(
-            num_capture_channels,
-            num_render_channels,
-            converged_filters,
-            render_spectra,
-            capture_spectra,
-        );
-        if refused == ACCEPTED {
-            let state = self.updated(
-                num_render_channels,
-                converged_filters,
-                render_spectra,
-                capture_spectra,
-            );
-            ErlUpdate { state, refused }
+        let outcome = block.judge();
+        let state = if outcome.is_ok() {
+            self.updated(block)
         } else {
-            ErlUpdate {
-                state: self,
-                refused,
-            }
-        }
+            self
+        };
+        Answer { state, outcome }
     }
 
-    fn updated(
-        self,
-        renders: usize,
-        converged: &[bool],
-        render: &[f32],
-        capture: &[f32],
-    ) -> ErlEstimator
-        requires renders_nonzero { (0 < renders) × (renders ≤ 2) }
-        requires converged_len_bound { length converged.now ≤ 4 }
-        requires render_len { (length render.now ≡ renders * 65) × (length capture.now ≡ length converged.now * 65) }
-        ensures { result ≡ Erl·updated self renders converged.now render.now capture.now }
+    #[tactic(auto, using(std::proofs::lemmas::Bool::Decides::nat_tests), unfolding(crate::specs::Erl::update_refusal))]
+    fn updated(self, block: &ErlBlock) -> ErlEstimator
+        requires { with_block update_refusal block.now ≡ accepted }
+        ensures { result ≡ Erl·updated self block.now.num_render_channels block.now.converged_filters.now block.now.render_spectra.now block.now.capture_spectra.now }
     {
         let counted = self.counted();
-        match first_converged(converged) {
-            FirstConverged::Nothing => counted,
-            FirstConverged::Channel(first) => {
-                if counted.blocks_since_reset < counted.startup_phase_length_blocks {
-                    counted
-                } else {
-                    let reduced_render = all_reduced(render, renders);
-                    let reduced_capture = reduced_from(capture, converged, first);
-                    counted.learnt_from(&reduced_render, &reduced_capture)
-                }
-            }
+        let Some(first) = first_converged(block.converged_filters) else {
+            return counted;
+        };
+        if counted.blocks_since_reset < counted.startup_phase_length_blocks {
+            return counted;
         }
+        let render = all_reduced(block.render_spectra, block.num_render_channels);
+        let capture = reduced_from(block.capture_spectra, block.converged_filters, first);
+        counted.learnt_from(&render, &capture)
     }
 
     fn counted(mut self) -> ErlEstimator
         ensures { result ≡ Erl·counted self }
     {
-        let n = one_more(self.blocks_since_reset);
-        self.blocks_since_reset = n;
+        self.blocks_since_reset = one_more(self.blocks_since_reset);
         self
     }
 
@@ -135,7 +100,7 @@ impl ErlEstimator {
             erl: self.erl_time_domain,
             hold: self.hold_counter_time_domain,
         };
-        let time = time_domain_after(before, render, capture);
+        let time = before.time_domain_after(render, capture);
         let new = new_erls(render, capture);
         let hold_counters = moved_holds(&self.hold_counters, &self.erl, &new);
         let mut erl = moved_erl(&self.erl, &hold_counters, &new);
@@ -145,8 +110,7 @@ impl ErlEstimator {
             hold_counters,
             erl_time_domain: time.erl,
             hold_counter_time_domain: time.hold,
-            startup_phase_length_blocks: self.startup_phase_length_blocks,
-            blocks_since_reset: self.blocks_since_reset,
+            ..self
         }
     }
 }

@@ -3,7 +3,7 @@ use Rattle.std.specs.Prelude.{Bool, false, cond, List, ℕ, ℤ, pos, Float, get
 use Rattle.std.specs.Float.{nan}
 use Rattle.aec3_common.specs.Lists.{tab}
 use Rattle.filter_sections.specs.Subbands.{max_erle}
-use Rattle.erle_bands.specs.declared.streams.Limits.{Limits}
+use Rattle.aec3_common.specs.declared.settings.ErleLimits.{ErleLimits}
 use Rattle.erle_bands.specs.Band.{sum_with, low_with, ratio, learns, hold_falls, stream_moved, waits_learnt, hold_learnt, hold_less, compensated_beside, waits_beside}
 
 -- each band that passes the test changed by f; the others as they were
@@ -26,7 +26,7 @@ ratios_of captures residuals = tab 65 (λ k. ratio (get_or captures k nan) (get_
 abbrev pub band_learns : List Float → ℕ → Bool
 band_learns residuals k = learns k (get_or residuals k nan)
 
-unfoldable pub all_streams_moved : Limits → List Float → List Float → List Bool → List Float → List Float
+unfoldable pub all_streams_moved : ErleLimits → List Float → List Float → List Bool → List Float → List Float
 all_streams_moved limits news residuals lows olds =
     bands_where nan (band_learns residuals) olds
     (λ k old. stream_moved limits.min (max_erle limits.max_l limits.max_h k) (get_or news k nan) (get_or lows k false) old)

@@ -1,12 +1,12 @@
 // One band: how its streams move, how long it is held, how its compensated value decays.
 ghost use Rattle.std.specs.Prelude.{◌≡◌, cond, not, ◌&&◌};
-ghost use Rattle.erle_bands.specs.Band.{share as Band·share, stream_moved, sum_with, low_with, has_ratio, waits_learnt, hold_learnt, hold_less, decayed as Band·decayed, compensated_beside, waits_beside};
+ghost use Rattle.erle_bands.specs.Band.{share as Band·share, stream_moved, sum_with, low_with, has_ratio as Band·has_ratio, hold_less, decayed as Band·decayed, compensated_beside, waits_beside};
 
 use aec3_common::counts::fallen;
 use aec3_common::{X2_BAND_ENERGY_THRESHOLD, clamp, larger, moved};
 
 // For so many blocks a band with a new ratio without low energy is held.
-const BLOCKS_FOR_ONSET_DETECTION: i32 = 250;
+pub const BLOCKS_FOR_ONSET_DETECTION: i32 = 250;
 
 // At so many blocks or less its compensated value decays.
 const BLOCKS_OF_DECAY: i32 = 150;
@@ -57,7 +57,15 @@ fn update_erle_band(
     clamp(moved(erle, new_erle, alpha), min_erle, max_erle)
 }
 
-// The same where the residual sum is above 0; elsewhere the value stays.
+// Whether there is a new ratio: the residual sum is above 0.
+fn has_ratio(e2: f32) -> bool
+    ensures { result ≡ Band·has_ratio e2 }
+{
+    e2 > 0.0
+}
+
+// The same where there is a new ratio; elsewhere the value stays. Six parameters: each is of a table of its own, and no other function has them
+// together.
 pub fn stream_by(
     erle: f32,
     new_erle: f32,
@@ -66,44 +74,20 @@ pub fn stream_by(
     min_erle: f32,
     max_erle: f32,
 ) -> f32
-    ensures { result ≡ cond (has_ratio e2) (stream_moved min_erle max_erle new_erle low_render_energy erle) erle }
+    ensures { result ≡ cond (Band·has_ratio e2) (stream_moved min_erle max_erle new_erle low_render_energy erle) erle }
 {
-    if e2 > 0.0 {
+    if has_ratio(e2) {
         update_erle_band(erle, new_erle, low_render_energy, min_erle, max_erle)
     } else {
         erle
     }
 }
 
-// Whether a band has a new ratio without low energy.
-fn onset_by(e2: f32, low_render_energy: bool) -> bool
-    ensures { result ≡ has_ratio e2 && not low_render_energy }
+// Whether there is one without low energy: then the band waits no longer, and its hold begins again.
+pub fn onset_by(e2: f32, low_render_energy: bool) -> bool
+    ensures { result ≡ Band·has_ratio e2 && not low_render_energy }
 {
-    (e2 > 0.0) & !low_render_energy
-}
-
-// Whether it waits for an onset still.
-#[tactic(auto, unfolding(crate::specs::Band::waits_learnt))]
-pub fn wait_by(waits: bool, e2: f32, low_render_energy: bool) -> bool
-    ensures { result ≡ cond (has_ratio e2) (waits_learnt low_render_energy waits) waits }
-{
-    if onset_by(e2, low_render_energy) {
-        false
-    } else {
-        waits
-    }
-}
-
-// Its hold, which begins again there.
-#[tactic(auto, unfolding(crate::specs::Band::hold_learnt))]
-pub fn hold_by(hold: i32, e2: f32, low_render_energy: bool) -> i32
-    ensures { result ≡ cond (has_ratio e2) (hold_learnt low_render_energy hold) hold }
-{
-    if onset_by(e2, low_render_energy) {
-        BLOCKS_FOR_ONSET_DETECTION
-    } else {
-        hold
-    }
+    has_ratio(e2) & !low_render_energy
 }
 
 // A hold one block later.
@@ -111,8 +95,7 @@ pub fn hold_by(hold: i32, e2: f32, low_render_energy: bool) -> i32
 pub fn hold_less(hold: i32) -> i32
     ensures { result ≡ hold_less hold }
 {
-    let h = fallen(hold);
-    if h <= 0 { 0 } else { h }
+    fallen(hold).max(0)
 }
 
 // A compensated value that decays towards the onset value.
@@ -144,5 +127,5 @@ pub fn compensated_beside(min_erle: f32, hold: i32, onset: f32, erle: f32) -> f3
 pub fn wait_beside(hold: i32, waits: bool) -> bool
     ensures { result ≡ waits_beside hold waits }
 {
-    if hold <= 0 { true } else { waits }
+    (hold <= 0) | waits
 }

@@ -1,4 +1,4 @@
-// The bands of the subband estimator: the rules of one band, and the loops that apply them to a table of 65.
+// The bands of the subband estimator: the rules of one band, and what applies them to a table of 65.
 #![tactic(auto)]
 
 mod band;

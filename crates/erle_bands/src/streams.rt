@@ -1,39 +1,58 @@
-// A stream of a channel with new ratios.
-ghost use Rattle.std.specs.Prelude.{◌≡◌, length, cond};
-ghost use Rattle.filter_sections.specs.Subbands.{max_erle};
-ghost use Rattle.erle_bands.specs.Band.{has_ratio, stream_moved};
-ghost use Rattle.erle_bands.specs.Steps.{all_streams_moved};
+// What the bands of a channel learn from new ratios: bands 1 to 63, where the residual sum is above 0.
+ghost use Rattle.std.specs.Prelude.{◌≡◌};
+ghost use Rattle.erle_bands.specs.Steps.{all_streams_moved, all_waits_learnt, all_holds_learnt};
 
-use crate::band::stream_by;
+use crate::band::{BLOCKS_FOR_ONSET_DETECTION, onset_by, stream_by};
+use aec3_common::ErleLimits;
+use aec3_common::entries::change;
 use filter_sections::max_erle;
 
-// The limits of a stream: the minimum, and the maxima of the lower and the upper bands.
-#[derive(Clone, Copy)]
-pub struct Limits {
-    pub min: f32,
-    pub max_l: f32,
-    pub max_h: f32,
+// The new ratios, and what tells the bands that learn from them: the residual sums, and where low energy was noted.
+#[derive(Clone, Copy, Debug)]
+pub struct NewRatios<'a> {
+    pub ratios: &'a [f32; 65],
+    pub e2: &'a [f32; 65],
+    pub low: &'a [bool; 65],
 }
 
-fn band_by(erle: f32, new_erle: f32, e2: f32, low: bool, limits: Limits, k: usize) -> f32
-    ensures { result ≡ cond (has_ratio e2) (stream_moved limits.min (max_erle limits.max_l limits.max_h k) new_erle low erle) erle }
-{
-    let max = max_erle(limits.max_l, limits.max_h, k);
-    stream_by(erle, new_erle, e2, low, limits.min, max)
-}
+impl NewRatios<'_> {
+    // A stream moves.
+    pub fn move_stream(&self, stream: &mut [f32; 65], limits: ErleLimits)
+        ensures { stream.new ≡ all_streams_moved limits self.now.ratios.now self.now.e2.now self.now.low.now stream.old }
+    {
+        let by = |k: usize, erle: f32| {
+            let max = max_erle(limits, k);
+            stream_by(
+                erle,
+                self.ratios[k],
+                self.e2[k],
+                self.low[k],
+                limits.min,
+                max,
+            )
+        };
+        change(stream, 1, 64, by);
+    }
 
-// Bands 1 to 63 of the stream moved, where the residual sum is above 0.
-pub fn move_stream(
-    s: &mut [f32; 65],
-    new_erle: &[f32; 65],
-    e2: &[f32; 65],
-    low: &[bool; 65],
-    limits: Limits,
-)
-    requires { length s.old ≡ 65 }
-    ensures { s.new ≡ all_streams_moved limits new_erle.now e2.now low.now s.old }
-{
-    for k in 1..64 {
-        s[k] = band_by(s[k], new_erle[k], e2[k], low[k], limits, k);
+    // A band without low energy stops waiting.
+    pub fn stop_waiting(&self, waits: &mut [bool; 65])
+        ensures { waits.new ≡ all_waits_learnt self.now.e2.now self.now.low.now waits.old }
+    {
+        let by = |k: usize, wait: bool| wait & !onset_by(self.e2[k], self.low[k]);
+        change(waits, 1, 64, by);
+    }
+
+    // And its hold begins again.
+    pub fn hold_again(&self, holds: &mut [i32; 65])
+        ensures { holds.new ≡ all_holds_learnt self.now.e2.now self.now.low.now holds.old }
+    {
+        let by = |k: usize, hold: i32| {
+            if onset_by(self.e2[k], self.low[k]) {
+                BLOCKS_FOR_ONSET_DETECTION
+            } else {
+                hold
+            }
+        };
+        change(holds, 1, 64, by);
     }
 }

@@ -10,7 +10,7 @@ use Rattle.aec3_common.specs.declared.settings.ErleSettings.{ErleSettings}
 use Rattle.aec3_common.specs.Refusal.{accepted}
 use Rattle.aec3_common.specs.Settings.{settings_refusal}
 use Rattle.aec3_common.proofs.Choices.{cond_has}
-use Rattle.aec3_common.proofs.Every.{every-by}
+use Rattle.aec3_common.proofs.Every.{list_all-by}
 use Rattle.aec3_common.proofs.Limits.{InBinary32, between-value}
 use Rattle.aec3_common.specs.Binary32.{greatest_value, within}
 use Rattle.filter_sections.proofs.Limits.{AllInOrder}
@@ -28,7 +28,7 @@ use Rattle.fullband_erle_estimator.specs.FullBand.{started as FullBand·started,
 use Rattle.fullband_erle_estimator.proofs.Runs.{Kept as FullBandKept, started-kept as fullband-started, updated-kept as fullband-updated, state-ok as fullband-ok}
 use Rattle.erle_estimator.specs.declared.ErleEstimator.{ErleEstimator}
 use Rattle.erle_estimator.specs.Parts.{subband_settings, signal_settings, fullband_settings, subband_part, signal_part, fullband_part, with_records}
-use Rattle.erle_estimator.specs.Erle.{Update, powers_of, active_in, after_block, state_ok, state_refusal, update_refusal, started_with, start_answer, blocks_kept, after_reset, reset_answer, counted, updated, after_accepted, update_answer}
+use Rattle.erle_estimator.specs.Erle.{Update, powers_of, active_in, after_block, state_ok, state_refusal, update_refusal, started_with, blocks_kept, after_reset, reset_answer, counted, updated, after_accepted, update_answer}
 use Rattle.erle_estimator.proofs.Judged.{signal-settings-passed, subband-settings-passed, fullband-settings-passed, subband-passed, fullband-passed, Accepted, accepted-call, fits}
 
 -- each part's settings
@@ -60,7 +60,7 @@ good-ok s good =
 
 -- ---- starts and resets
 
-started-good :
+pub started-good :
     (startup blocks : ℕ) (g : ErleSettings) → InBinary32 g.min g.max_l g.max_h → settings_refusal g ≡ accepted
     → Good (started_with startup blocks g)
 unfolding started_with Subband·started SignalDependent·started FullBand·started
@@ -72,13 +72,6 @@ started-good startup blocks g held ok =
       signal = signal-started (signal_settings g) (signal-settings-ok g held ok);
       fullband = fullband-started (fullband_settings g) (fullband-settings-passed g ok);
     }
-
--- an accepted start leaves such a state
-pub start-good :
-    (startup : ℕ) (g : ErleSettings) → InBinary32 g.min g.max_l g.max_h → (start_answer startup g).refused ≡ accepted
-    → Good (start_answer startup g).state
-unfolding start_answer
-start-good startup g held e = rw e (started-good startup 0 g held e)
 
 -- a reset, accepted or refused, does too
 pub reset-good : (s : ErleEstimator) (delay_change : Bool) → Good s → Good (reset_answer s delay_change).state
@@ -102,7 +95,7 @@ module _ {g : SubbandSettings} (limits : AllInOrder g.min g.max_l g.max_h) {c : 
       record {
         long = kept.long.plain;
         values =
-            every-by (within greatest_value) c.erle nan
+            list_all-by (within greatest_value) c.erle nan
             (λ k h. let b : k < 65 = omega (arith, kept.long.plain) in between-value (limits k) (kept.streams k b).plain);
       }
 
@@ -111,7 +104,7 @@ module _ {g : SubbandSettings} (limits : AllInOrder g.min g.max_l g.max_h) {c : 
       record {
         long = kept.long.compensated;
         values =
-            every-by (within greatest_value) c.erle_onset_compensated nan
+            list_all-by (within greatest_value) c.erle_onset_compensated nan
             (λ k h. let b : k < 65 = omega (arith, kept.long.compensated) in between-value (limits k) (kept.onset k b).compensated);
       }
 

@@ -1,29 +1,26 @@
 -- What the judging of settings, of a state and of an update tells of the parts.
-use mathlib.Core.Path.{◌≡◌, refl, sym, ap, ◌∙◌}
-use mathlib.Core.Bool.{Bool, true, false, cond, ◌&&◌, true≢false}
-use Prim.Native.Nat.{ℕ, suc, ◌+◌, ◌≤◌, ◌<◌}
-use native.Mathlib.Omega.{arith}
-use borrow.Author.Tests.{eq-eqb, ne_eqb, eqb-true}
+use mathlib.Core.Path.{◌≡◌, refl, sym, ◌∙◌}
+use mathlib.Core.Bool.{Bool, true, false, ◌&&◌}
+use Prim.Native.Nat.{suc, ◌≤◌}
+use borrow.Author.Tests.{eq-eqb, eqb-true}
 use lib.Dec.{eqb}
-use lib.ListN.{length, get_or, take}
+use lib.ListN.{take}
 use Rattle.aec3_common.specs.declared.settings.ErleSettings.{ErleSettings}
 use Rattle.aec3_common.specs.Binary32.{values_ok}
 use Rattle.aec3_common.specs.Calls.{value_refusal}
-use Rattle.aec3_common.specs.Lists.{every}
+use Rattle.std.specs.List.{list_all}
 use Rattle.aec3_common.specs.Refusal.{accepted}
 use Rattle.aec3_common.specs.Settings.{settings_refusal}
 use Rattle.aec3_common.proofs.Calls.{UpdateOk, first-passed}
-use Rattle.aec3_common.proofs.Every.{Tested, tested-none, tested-more}
-use Rattle.aec3_common.proofs.Choices.{each-of-three}
-use Rattle.subband_erle_estimator.specs.Subband.{settings_refusal as Subband·settings_refusal, channel_ok as Subband·channel_ok, no_channel as Subband·no_channel, state_ok as Subband·state_ok}
-use Rattle.signal_dependent_erle_estimator.specs.SignalDependent.{settings_refusal as SignalDependent·settings_refusal, boundaries_of, settings_pass, same_first, channel_ok as SignalDependent·channel_ok, no_channel as SignalDependent·no_channel, state_ok as SignalDependent·state_ok}
+use Rattle.aec3_common.proofs.Choices.{and_left, each-of-three}
+use Rattle.subband_erle_estimator.specs.Subband.{settings_refusal as Subband·settings_refusal, channel_ok as Subband·channel_ok, state_ok as Subband·state_ok}
+use Rattle.signal_dependent_erle_estimator.specs.SignalDependent.{settings_refusal as SignalDependent·settings_refusal, boundaries_of, settings_pass, same_first, channel_ok as SignalDependent·channel_ok, state_ok as SignalDependent·state_ok}
 use Rattle.signal_dependent_erle_estimator.specs.Steps.{Passed}
-use Rattle.signal_dependent_erle_estimator.proofs.Judged.{few-captures, eight-sections, settings-passed, all-judged, lent-passed, powers-passed}
+use Rattle.signal_dependent_erle_estimator.proofs.Judged.{few-captures, settings-passed, all-judged, lent-passed, powers-passed}
 use Rattle.fullband_channel.specs.Channel.{channel_ok as FullBand·channel_ok}
-use Rattle.fullband_erle_estimator.specs.FullBand.{settings_refusal as FullBand·settings_refusal, no_channel as FullBand·no_channel, state_ok as FullBand·state_ok}
+use Rattle.fullband_erle_estimator.specs.FullBand.{settings_refusal as FullBand·settings_refusal, state_ok as FullBand·state_ok}
 use Rattle.erle_estimator.specs.declared.ErleEstimator.{ErleEstimator}
 use Rattle.erle_estimator.specs.Parts.{subband_settings, signal_settings, fullband_settings, subband_part, signal_part, fullband_part}
-use Rattle.erle_estimator.specs.Steps.{judged_channels}
 use Rattle.erle_estimator.specs.Erle.{Update, state_ok, lent_lengths_ok, lent_values, update_refusal}
 
 -- ---- settings
@@ -50,94 +47,45 @@ signal-settings-same g = refl
 
 -- ---- a state
 
--- tests joined in the order of the code and in that of the parts
-reordered : (w s g f : Bool) → w && (s && g && f) ≡ s && (w && g) && f
-reordered true s g f = refl
-reordered false true g f = refl
-reordered false false g f = refl
+-- what is left to judge where settings and boundaries pass
+abbrev channels_ok : ErleEstimator → Bool
+channels_ok s =
+    let n = s.settings.num_capture_channels in
+    list_all Subband·channel_ok (take n s.subband)
+    && list_all (SignalDependent·channel_ok s.settings.num_sections) (take n s.signal_dependent)
+    && list_all FullBand·channel_ok (take n s.fullband)
 
--- settings that fail do not pass
-pub state-failed : (s : ErleEstimator) → (settings_refusal s.settings ≡ accepted → ⊥) → false ≡ state_ok s
-unfolding state_ok SignalDependent·state_ok SignalDependent·settings_refusal settings_refusal
-state-failed s bad = go (Subband·state_ok (subband_part s))
-  where
-    go : (t : Bool) → false ≡ t && (eqb (SignalDependent·settings_refusal (signal_settings s.settings)) accepted && same_first (suc s.settings.num_sections) s.section_boundaries_blocks (boundaries_of (signal_settings s.settings)) && every (SignalDependent·channel_ok s.settings.num_sections) (take s.settings.num_capture_channels s.signal_dependent)) && FullBand·state_ok (fullband_part s)
-    go true = simp (ne_eqb _ _ bad)
-    go false = refl
+module _ (s : ErleEstimator) where
+  -- the settings among those that pass
+  pub settings-within : settings_pass (signal_settings s.settings) s.section_boundaries_blocks ≡ true → settings_refusal s.settings ≡ accepted
+  settings-within ok =
+      sym (signal-settings-same s.settings)
+      ∙ eqb-true (SignalDependent·settings_refusal (signal_settings s.settings)) accepted
+      (and_left
+      (eqb (SignalDependent·settings_refusal (signal_settings s.settings)) accepted)
+      (same_first (suc s.settings.num_sections) s.section_boundaries_blocks (boundaries_of (signal_settings s.settings))) ok)
 
--- settings that pass have at most four channels and eight sections
-pub judged-few : (g : ErleSettings) (ch : ℕ) → ch < judged_channels g → (ch < 4) × (g.num_sections ≤ 8)
-unfolding judged_channels
-judged-few g ch h = go (eqb (settings_refusal g) accepted) refl h
-  where
-    go : (t : Bool) → eqb (settings_refusal g) accepted ≡ t → ch < cond t g.num_capture_channels 0 → (ch < 4) × (g.num_sections ≤ 8)
-    go true ok h =
-        let passes = signal-settings-passed g (eqb-true _ _ ok) in
-        (omega (arith, few-captures _ passes), eight-sections _ passes)
-    go false ok h = absurd (omega arith)
+  pub channels-left : settings_pass (signal_settings s.settings) s.section_boundaries_blocks ≡ true → channels_ok s ≡ state_ok s
+  unfolding state_ok Subband·state_ok SignalDependent·state_ok FullBand·state_ok
+  channels-left ok =
+      let g = s.settings in
+      let passes = settings-within ok in
+      rw (ok, eq-eqb _ _ (subband-settings-passed g passes), eq-eqb _ _ (fullband-settings-passed g passes)) refl
 
--- what the walk over the records knows at ch: whether the first ch pass, part by part
-pub record Walked (s : ErleEstimator) (end ch : ℕ) (subband_ok signal_ok fullband_ok : Bool) : Type 0 where
-  pub judged : end ≡ judged_channels s.settings
-  pub below : ch ≤ end
-  pub subband : Tested Subband·channel_ok s.subband ch subband_ok
-  pub signal : Tested (SignalDependent·channel_ok s.settings.num_sections) s.signal_dependent ch signal_ok
-  pub fullband : Tested FullBand·channel_ok s.fullband ch fullband_ok
-
-pub walked_none : (s : ErleEstimator) {end : ℕ} → end ≡ judged_channels s.settings → Walked s end 0 true true true
-walked_none s e = record { judged = e; below = omega arith; subband = tested-none _ _; signal = tested-none _ _; fullband = tested-none _ _ }
-
-module _ {s : ErleEstimator} {end ch : ℕ} {a b c : Bool} (w : Walked s end ch a b c) where
-  -- a turn of the walk: its channel is one of four, and there are at most eight sections
-  pub walked-few : ch < end → (ch < 4) × (s.settings.num_sections ≤ 8)
-  walked-few h = judged-few s.settings ch (omega (arith, h, w.judged))
-
-  pub walked_more :
-      {x y z : Bool} → ch < end → (length s.subband ≡ 4) × (length s.signal_dependent ≡ 4) × (length s.fullband ≡ 4)
-      → x ≡ Subband·channel_ok (get_or s.subband ch Subband·no_channel)
-      → y ≡ SignalDependent·channel_ok s.settings.num_sections (get_or s.signal_dependent ch SignalDependent·no_channel)
-      → z ≡ FullBand·channel_ok (get_or s.fullband ch FullBand·no_channel)
-      → Walked s end (ch + 1) (a && x) (b && y) (c && z)
-  walked_more h (four, four-signal, four-fullband) e f g =
-      let few = (walked-few h).0 in
-      record {
-        judged = w.judged;
-        below = omega arith;
-        subband = tested-more Subband·no_channel w.subband (omega arith) e;
-        signal = tested-more SignalDependent·no_channel w.signal (omega arith) f;
-        fullband = tested-more FullBand·no_channel w.fullband (omega arith) g;
-      }
-
-  -- the settings and the boundaries, and the records that were looked at, make number 20
-  pub walked_all : {pass : Bool} → end ≤ ch → pass ≡ settings_pass (signal_settings s.settings) s.section_boundaries_blocks → pass && (a && b && c) ≡ state_ok s
-  unfolding state_ok Subband·state_ok SignalDependent·state_ok FullBand·state_ok judged_channels
-  walked_all {pass} over e =
-      ap (λ (t : Bool). t && (a && b && c)) (rw (signal-settings-same s.settings) at e)
-      ∙ go (eqb (settings_refusal s.settings) accepted) refl
+  -- settings that fail do not pass
+  pub settings-failed : settings_pass (signal_settings s.settings) s.section_boundaries_blocks ≡ false → false ≡ state_ok s
+  unfolding state_ok SignalDependent·state_ok
+  settings-failed bad = go (Subband·state_ok (subband_part s))
     where
-      last : (t : Bool) → eqb (settings_refusal s.settings) accepted ≡ t → ch ≡ cond t s.settings.num_capture_channels 0
-      last t ok =
-          let all : ch ≡ end = omega (arith, over, w.below) in
-          all ∙ w.judged ∙ ap (λ (t : Bool). cond t s.settings.num_capture_channels 0) ok
-
       go :
-          (t : Bool) → eqb (settings_refusal s.settings) accepted ≡ t
-          → (t && same_first (suc s.settings.num_sections) s.section_boundaries_blocks (boundaries_of (signal_settings s.settings))) && (a && b && c)
-          ≡ state_ok s
-      go true ok =
-          let g = s.settings in
-          let passes = eqb-true _ _ ok in
-          let all = last true ok in
-          reordered (same_first (suc g.num_sections) s.section_boundaries_blocks (boundaries_of (signal_settings g))) a b c
-          ∙ simp (
-            w.subband.told ∙ ap (λ (k : ℕ). every Subband·channel_ok (take k s.subband)) all,
-            w.signal.told ∙ ap (λ (k : ℕ). every (SignalDependent·channel_ok g.num_sections) (take k s.signal_dependent)) all,
-            w.fullband.told ∙ ap (λ (k : ℕ). every FullBand·channel_ok (take k s.fullband)) all,
-            eq-eqb _ _ (subband-settings-passed g passes),
-            eq-eqb _ _ (signal-settings-passed g passes),
-            eq-eqb _ _ (fullband-settings-passed g passes),
-          )
-      go false ok = state-failed s (λ z. true≢false (sym (eq-eqb _ _ z) ∙ ok))
+          (t : Bool)
+          → false
+          ≡ t
+          && (settings_pass (signal_settings s.settings) s.section_boundaries_blocks
+          && list_all (SignalDependent·channel_ok s.settings.num_sections) (take s.settings.num_capture_channels s.signal_dependent))
+          && FullBand·state_ok (fullband_part s)
+      go true = rw bad refl
+      go false = refl
 
 module _ (s : ErleEstimator) where
   module _ (ok : state_ok s ≡ true) where

@@ -6,19 +6,19 @@ use Prim.Native.Nat.{ℕ}
 use native.Mathlib.Omega.{arith}
 use Rattle.aec3_common.specs.declared.settings.ErleSettings.{ErleSettings}
 use Rattle.aec3_common.specs.Refusal.{accepted, bad_state}
+use Rattle.aec3_common.specs.Settings.{settings_refusal}
 use Rattle.aec3_common.proofs.Calls.{run-keeps}
 use Rattle.aec3_common.proofs.Limits.{InBinary32}
 use Rattle.aec3_common.proofs.Values.{values-not-20}
 use Rattle.signal_dependent_erle_estimator.proofs.Judged.{refusal-not-20}
 use Rattle.erle_estimator.specs.declared.ErleEstimator.{ErleEstimator}
-use Rattle.erle_estimator.specs.declared.ErleAnswer.{ErleAnswer}
 use Rattle.erle_estimator.specs.Parts.{signal_settings}
-use Rattle.erle_estimator.specs.Erle.{Update, lent_values, state_ok, state_refusal, update_refusal, started_with, start_answer, reset_answer, after_accepted, update_answer}
+use Rattle.erle_estimator.specs.Erle.{Update, lent_values, state_ok, state_refusal, update_refusal, started_with, reset_answer, after_accepted, update_answer}
 use Rattle.erle_estimator.specs.Runs.{Call, update, reset, answer, run, NeverBadState}
 use Rattle.erle_estimator.specs.Range.{AllInRange, FiguresInRange}
 use Rattle.erle_estimator.proofs.Range.{all-in-range}
 use Rattle.erle_estimator.proofs.Sections.{after-like, answer-like, reset-like}
-use Rattle.erle_estimator.proofs.Good.{Good, good-ok, start-good, update-good, reset-good}
+use Rattle.erle_estimator.proofs.Good.{Good, good-ok, started-good, update-good, reset-good}
 
 answer-good : (s : ErleEstimator) (c : Call) → Good s → Good (answer s c).state
 unfolding answer
@@ -32,25 +32,21 @@ answer-not-20 s (reset delay_change) ok e = let never : ◌≡◌ {A = ℕ} 0 20
 
 -- what a run from an accepted start keeps
 run-good :
-    (startup : ℕ) (g : ErleSettings) → InBinary32 g.min g.max_l g.max_h → (start_answer startup g).refused ≡ accepted
-    → (calls : List Call) → Good (run (start_answer startup g).state calls)
+    (startup : ℕ) (g : ErleSettings) → InBinary32 g.min g.max_l g.max_h → settings_refusal g ≡ accepted
+    → (calls : List Call) → Good (run (started_with startup 0 g) calls)
 unfolding run
-run-good startup g held e calls = run-keeps Good (λ t c. (answer t c).state) answer-good calls _ (start-good startup g held e)
+run-good startup g held e calls = run-keeps Good (λ t c. (answer t c).state) answer-good calls _ (started-good startup 0 g held e)
 
 pub never-bad-state :
-    (startup : ℕ) (g : ErleSettings) → InBinary32 g.min g.max_l g.max_h → (start_answer startup g).refused ≡ accepted
-    → NeverBadState (start_answer startup g).state
+    (startup : ℕ) (g : ErleSettings) → InBinary32 g.min g.max_l g.max_h → settings_refusal g ≡ accepted
+    → NeverBadState (started_with startup 0 g)
 unfolding NeverBadState state_refusal
 never-bad-state startup g held e calls =
-    let s = run (start_answer startup g).state calls in
+    let s = run (started_with startup 0 g) calls in
     let ok = good-ok s (run-good startup g held e calls) in
     record { calls = λ next. answer-not-20 s next ok; readings = rw ok }
 
 -- ---- figures
-
-start-settings : (startup : ℕ) (g : ErleSettings) → (start_answer startup g).refused ≡ accepted → (start_answer startup g).state.settings ≡ g
-unfolding start_answer started_with
-start-settings startup g e = rw e refl
 
 -- no call changes the settings
 pub update-settings : (s : ErleEstimator) (u : Update) → (after_accepted s u).settings ≡ s.settings
@@ -67,19 +63,11 @@ run-settings g =
     run-keeps (λ (s : ErleEstimator). s.settings ≡ g) (λ s c. (answer s c).state) (λ s c same. answer-settings s c ∙ same)
 
 pub figures-in-range :
-    (startup : ℕ) (g : ErleSettings) → InBinary32 g.min g.max_l g.max_h → (start_answer startup g).refused ≡ accepted
-    → FiguresInRange g (start_answer startup g).state
-unfolding FiguresInRange
+    (startup : ℕ) (g : ErleSettings) → InBinary32 g.min g.max_l g.max_h → settings_refusal g ≡ accepted
+    → FiguresInRange g (started_with startup 0 g)
+unfolding FiguresInRange started_with
 figures-in-range startup g held e calls =
-    let start = (start_answer startup g).state in
+    let start = (started_with startup 0 g) in
     let s = run start calls in
-    subst (λ (asked : ErleSettings). AllInRange asked s) (run-settings g calls start (start-settings startup g e))
+    subst (λ (asked : ErleSettings). AllInRange asked s) (run-settings g calls start refl)
     (all-in-range s (run-good startup g held e calls))
-
--- ---- a start
-
--- what is answered by the definition promises both
-pub start-promises :
-    (startup : ℕ) (g : ErleSettings) {r : ErleAnswer} → InBinary32 g.min g.max_l g.max_h → r ≡ start_answer startup g
-    → r.refused ≡ accepted → NeverBadState r.state × FiguresInRange g r.state
-start-promises startup g held same = rw same (λ e. (never-bad-state startup g held e, figures-in-range startup g held e))

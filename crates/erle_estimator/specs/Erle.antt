@@ -1,6 +1,7 @@
 -- The whole ERLE estimator: start, update and reset, its figures, and the calls that are turned away.
-use Rattle.std.specs.Prelude.{Bool, true, false, cond, ◌&&◌, List, ℕ, ltb, eqb, Float}
+use Rattle.std.specs.Prelude.{Bool, true, false, cond, ◌&&◌, List, ℕ, ltb, eqb, Float, Result, Err}
 use Rattle.aec3_common.specs.declared.settings.ErleSettings.{ErleSettings}
+use Rattle.aec3_common.specs.Answers.{Answered, answer_case}
 use Rattle.aec3_common.specs.Binary32.{zero32}
 use Rattle.aec3_common.specs.Calls.{value_refusal}
 use Rattle.aec3_common.specs.Counts.{one_more}
@@ -11,12 +12,9 @@ use Rattle.subband_erle_estimator.specs.declared.channel.SubbandChannel.{Subband
 use Rattle.subband_erle_estimator.specs.Subband.{channel_at as Subband·channel_at, state_ok as Subband·state_ok, started as Subband·started, updated as Subband·updated}
 use Rattle.signal_dependent_erle_estimator.specs.declared.channel.SignalDependentChannel.{SignalDependentChannel}
 use Rattle.signal_dependent_erle_estimator.specs.SignalDependent.{channel_at as SignalDependent·channel_at, state_ok as SignalDependent·state_ok, refusal_by, boundaries_of, started as SignalDependent·started, active_of, after_block as SignalDependent·after_block}
-use Rattle.fullband_channel.specs.declared.instantaneous.OptionalNumber.TheVariants.{Absent}
-use Rattle.fullband_erle_estimator.specs.declared.FullBandFigure.{FullBandFigure}
-use Rattle.fullband_erle_estimator.specs.declared.QualityAnswer.{QualityAnswer}
-use Rattle.fullband_erle_estimator.specs.FullBand.{state_ok as FullBand·state_ok, started as FullBand·started, updated as FullBand·updated, fullband_log2, decibels, figure_case, quality_answer as FullBand·quality_answer}
+use Rattle.fullband_channel.specs.declared.instantaneous.OptionalNumber.{OptionalNumber}
+use Rattle.fullband_erle_estimator.specs.FullBand.{state_ok as FullBand·state_ok, started as FullBand·started, updated as FullBand·updated, fullband_log2, decibels, quality_answer as FullBand·quality_answer}
 use Rattle.erle_estimator.specs.declared.ErleEstimator.{ErleEstimator}
-use Rattle.erle_estimator.specs.declared.ErleAnswer.{ErleAnswer}
 use Rattle.erle_estimator.specs.declared.streams.ErleStreams.{ErleStreams}
 use Rattle.erle_estimator.specs.Parts.{subband_settings, signal_settings, fullband_settings, subband_part, signal_part, fullband_part, with_records}
 -- what an update is lent, number 5 of it, and its values
@@ -53,7 +51,7 @@ started_with startup blocks g =
       fullband = (FullBand·started (fullband_settings g)).channels;
     }
 
--- what a refused start answers with: settings that number 20 turns away
+-- settings without a channel, which number 20 turns away
 unfoldable pub refused_settings : ErleSettings
 refused_settings =
     record {
@@ -70,10 +68,8 @@ refused_settings =
     }
 
 -- a start has counted no block
-unfoldable pub start_answer : ℕ → ErleSettings → ErleAnswer
-start_answer startup g =
-    let n = settings_refusal g in
-    record { state = started_with startup 0 (cond (eqb n accepted) g refused_settings); refused = n }
+unfoldable pub start_answer : ℕ → ErleSettings → Result ErleEstimator ℕ
+start_answer startup g = answer_case (settings_refusal g) (started_with startup 0 g)
 
 -- a reset clears the count only if the delay changed
 unfoldable pub blocks_kept : Bool → ℕ → ℕ
@@ -84,7 +80,7 @@ unfoldable pub after_reset : ErleEstimator → Bool → ErleEstimator
 after_reset s delay_change =
     started_with s.startup_phase_length_blocks (blocks_kept delay_change s.blocks_since_reset) s.settings
 
-unfoldable pub reset_answer : ErleEstimator → Bool → ErleAnswer
+unfoldable pub reset_answer : ErleEstimator → Bool → Answered ErleEstimator
 reset_answer s delay_change =
     let n = state_refusal s in
     record { state = cond (eqb n accepted) (after_reset s delay_change) s; refused = n }
@@ -119,7 +115,7 @@ unfoldable pub after_accepted : ErleEstimator → Update → ErleEstimator
 after_accepted s u = after_block s (powers_of u) (active_in s u)
 
 -- The answer: the next state and 0, or the state as it was and the refusal.
-unfoldable pub update_answer : ErleEstimator → Update → ErleAnswer
+unfoldable pub update_answer : ErleEstimator → Update → Answered ErleEstimator
 update_answer s u =
     let n = update_refusal s u in
     record { state = cond (eqb n accepted) (after_accepted s u) s; refused = n }
@@ -153,14 +149,14 @@ streams_shown g subband signal =
 abbrev pub streams_of : ErleEstimator → ℕ → ErleStreams
 streams_of s ch = streams_shown s.settings (Subband·channel_at (subband_part s) ch) (SignalDependent·channel_at (signal_part s) ch)
 
-unfoldable pub log2_answer : ErleEstimator → FullBandFigure
-log2_answer s = figure_case (state_refusal s) (fullband_log2 (fullband_part s))
+unfoldable pub log2_answer : ErleEstimator → Result Float ℕ
+log2_answer s = answer_case (state_refusal s) (fullband_log2 (fullband_part s))
 
-unfoldable pub decibel_answer : ErleEstimator → FullBandFigure
-decibel_answer s = figure_case (state_refusal s) (decibels (fullband_log2 (fullband_part s)))
+unfoldable pub decibel_answer : ErleEstimator → Result Float ℕ
+decibel_answer s = answer_case (state_refusal s) (decibels (fullband_log2 (fullband_part s)))
 
--- the quality of a channel's linear filter, absent too where the state is turned away or has no such channel
-unfoldable pub quality_answer : ErleEstimator → ℕ → QualityAnswer
+-- the quality of a channel's linear filter, as the fullband part answers it; absent where the state has no such channel
+unfoldable pub quality_answer : ErleEstimator → ℕ → Result OptionalNumber ℕ
 quality_answer s ch =
     let n = state_refusal s in
-    record { quality = cond (eqb n accepted) (FullBand·quality_answer (fullband_part s) ch).quality Absent; refused = n }
+    cond (eqb n accepted) (FullBand·quality_answer (fullband_part s) ch) (Err n)

@@ -1,52 +1,18 @@
 -- The three parts of the ERLE estimator under its one set of settings.
 use Rattle.std.specs.Prelude.{List, ℕ}
-use Rattle.aec3_common.specs.declared.settings.ErleSettings.{ErleSettings}
-use Rattle.subband_erle_estimator.specs.declared.settings.SubbandSettings.{SubbandSettings}
 use Rattle.subband_erle_estimator.specs.declared.channel.SubbandChannel.{SubbandChannel}
 use Rattle.subband_erle_estimator.specs.declared.SubbandErleEstimator.{SubbandErleEstimator}
-use Rattle.signal_dependent_erle_estimator.specs.declared.settings.SignalDependentSettings.{SignalDependentSettings}
 use Rattle.signal_dependent_erle_estimator.specs.declared.channel.SignalDependentChannel.{SignalDependentChannel}
 use Rattle.signal_dependent_erle_estimator.specs.declared.SignalDependentErleEstimator.{SignalDependentErleEstimator}
 use Rattle.fullband_channel.specs.declared.channel.FullBandChannel.{FullBandChannel}
-use Rattle.fullband_erle_estimator.specs.declared.settings.FullBandSettings.{FullBandSettings}
 use Rattle.fullband_erle_estimator.specs.declared.FullBandErleEstimator.{FullBandErleEstimator}
 use Rattle.erle_estimator.specs.declared.ErleEstimator.{ErleEstimator}
-
 -- ---- settings
 
-abbrev pub subband_settings : ErleSettings → SubbandSettings
-subband_settings g =
-    record {
-      min = g.min;
-      max_l = g.max_l;
-      max_h = g.max_h;
-      onset_detection = g.onset_detection;
-      num_capture_channels = g.num_capture_channels;
-    }
-
-abbrev pub signal_settings : ErleSettings → SignalDependentSettings
-signal_settings g =
-    record {
-      min = g.min;
-      max_l = g.max_l;
-      max_h = g.max_h;
-      onset_detection = g.onset_detection;
-      num_capture_channels = g.num_capture_channels;
-      num_sections = g.num_sections;
-      filter_length_blocks = g.filter_length_blocks;
-      delay_headroom_samples = g.delay_headroom_samples;
-    }
-
-abbrev pub fullband_settings : ErleSettings → FullBandSettings
-fullband_settings g =
-    record {
-      min = g.min;
-      max_l = g.max_l;
-      max_h = g.max_h;
-      clamp_quality_estimate_to_zero = g.clamp_quality_estimate_to_zero;
-      clamp_quality_estimate_to_one = g.clamp_quality_estimate_to_one;
-      num_capture_channels = g.num_capture_channels;
-    }
+-- a part's share of the one set
+pub use Rattle.subband_erle_estimator.specs.Subband.{subband_settings}
+pub use Rattle.signal_dependent_erle_estimator.specs.Settings.{signal_settings}
+pub use Rattle.fullband_erle_estimator.specs.FullBand.{fullband_settings}
 
 -- ---- states
 

@@ -1,9 +1,9 @@
 -- Lists of calls: the state that they leave is taken up again.
 use Rattle.std.specs.Prelude.{◌≡◌, Bool, List}
+use Rattle.aec3_common.specs.Answers.{Answered}
 use Rattle.aec3_common.specs.Calls.{run_by}
 use Rattle.aec3_common.specs.Refusal.{accepted, bad_state}
 use Rattle.erle_estimator.specs.declared.ErleEstimator.{ErleEstimator}
-use Rattle.erle_estimator.specs.declared.ErleAnswer.{ErleAnswer}
 use Rattle.erle_estimator.specs.Erle.{Update, state_refusal, reset_answer, update_answer}
 
 -- a call, accepted or refused: an update; or a reset, and whether the delay changed
@@ -12,7 +12,7 @@ pub data Call : Type 0 where
   reset : Bool → Call
 
 -- what it is answered with
-unfoldable pub answer : ErleEstimator → Call → ErleAnswer
+unfoldable pub answer : ErleEstimator → Call → Answered ErleEstimator
 answer s (update u) = update_answer s u
 answer s (reset delay_change) = reset_answer s delay_change
 

@@ -1,19 +1,12 @@
 -- What inner functions of the code promise or ask; no part of the definition.
-use Rattle.std.specs.Prelude.{◌≡◌, true, cond, List, ℕ, ◌*◌, ◌≤◌, ◌<◌, eqb, ltb, length}
-use Rattle.aec3_common.specs.declared.settings.ErleSettings.{ErleSettings}
-use Rattle.aec3_common.specs.Refusal.{accepted}
-use Rattle.aec3_common.specs.Lists.{every}
-use Rattle.aec3_common.specs.Settings.{settings_refusal}
+use Rattle.std.specs.Prelude.{◌≡◌, true, List, ℕ, ◌*◌, ◌≤◌, ◌<◌, ltb, length}
+use Rattle.std.specs.List.{list_all}
 use Rattle.subband_erle_estimator.specs.Subband.{channel_at as Subband·channel_at, updated as Subband·updated}
 use Rattle.signal_dependent_erle_estimator.specs.SignalDependent.{updated as SignalDependent·updated}
 use Rattle.fullband_erle_estimator.specs.FullBand.{channel_at as FullBand·channel_at, updated as FullBand·updated}
 use Rattle.erle_estimator.specs.declared.ErleEstimator.{ErleEstimator}
 use Rattle.erle_estimator.specs.Parts.{subband_part, signal_part, fullband_part, with_records}
 use Rattle.erle_estimator.specs.Erle.{Powers}
-
--- how many records number 20 looks at: none where the settings break 1, 2 or 3
-unfoldable pub judged_channels : ErleSettings → ℕ
-judged_channels g = cond (eqb (settings_refusal g) accepted) g.num_capture_channels 0
 
 -- ---- the inner update
 
@@ -35,7 +28,7 @@ pub record PointsFit (s : ErleEstimator) (channels : ℕ) : Type 0 where
 pub record SectionsFit (s : ErleEstimator) (channels : ℕ) (active : ℕ → List ℕ) : Type 0 where
   pub some : 1 ≤ s.settings.num_sections
   pub few : s.settings.num_sections ≤ 8
-  pub below : (ch : ℕ) → ch < channels → every (λ n. ltb n s.settings.num_sections) (active ch) ≡ true
+  pub below : (ch : ℕ) → ch < channels → list_all (λ n. ltb n s.settings.num_sections) (active ch) ≡ true
 
 -- the subband and the fullband part one block later
 unfoldable pub moved_by_powers : ErleEstimator → Powers → ErleEstimator

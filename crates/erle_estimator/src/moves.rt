@@ -7,7 +7,8 @@ ghost use Rattle.fullband_channel.specs.Channel.{with_point, one_block_less};
 use fullband_erle_estimator::FullBandChannel;
 use subband_erle_estimator::{SubbandChannel, SubbandSettings};
 
-// A converged channel learns and decays, another one only decays.
+// A converged channel learns and decays, another one only decays. A channel's flag and powers are parameters here and below: the parts' own updates
+// take them so, and a struct would be made for each call and taken apart at once.
 pub fn move_subband(
     c: &mut SubbandChannel,
     settings: SubbandSettings,

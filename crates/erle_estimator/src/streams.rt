@@ -9,7 +9,7 @@ use subband_erle_estimator::SubbandChannel;
 
 // A channel's figures: the plain, the onset-compensated and the uncapped ERLE of each band, and the onset values. With onset detection
 // off the compensated stream is the plain one; with two or more sections the uncapped one is the plain one.
-#[derive(Clone, Copy)]
+#[derive(Clone, Copy, Debug)]
 pub struct ErleStreams {
     pub plain: [f32; 65],
     pub compensated: [f32; 65],

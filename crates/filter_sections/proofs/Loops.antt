@@ -10,6 +10,7 @@ use borrow.Author.Tests.{eqb-true, eqb-false, eq-eqb, ne_eqb, ltb-true, ltb-fals
 use lib.Dec.{ltb, eqb}
 use lib.ListN.{length, get_or, take, drop, set, get_or-eq_default}
 use lib.Seq.{get_or-set_same, get_or-take, get_or-drop, drop-drop, length-take-le}
+use Rattle.aec3_common.specs.Steps.{Changed}
 use Rattle.aec3_common.proofs.Tables.{length-tab, Stored, stored-none, stored_more}
 use Rattle.filter_sections.specs.Sections.{takes, doubling, section_sizes, running_sums, padded}
 use Rattle.filter_sections.specs.Steps.{Doubled}
@@ -118,16 +119,18 @@ module _ {n blocks places : ℕ} {sizes : List ℕ} {taken left : ℕ} (d : Doub
       ∙ padded-at places (take taken (section_sizes n blocks)) j (rw (length_taken n blocks taken d.some) (omega (arith, d.some)))
 
   pub shared-all :
-      {r : List ℕ} {k : ℕ}
-      → Stored places 0 taken n (λ k. get_or (section_sizes n blocks) k 0) sizes r k → n ≤ k → n ≤ places
+      {R : ℕ → ℕ → ℕ → Type 0} {r : List ℕ}
+      → Changed R taken n sizes r → length r ≡ places → n ≤ places
+      → ((k x y : ℕ) → taken ≤ k → k < n → R k x y → y ≡ get_or (section_sizes n blocks) k 0)
       → r ≡ padded places (section_sizes n blocks)
-  shared-all {r = r} s over fits = padded-is places (section_sizes n blocks) r s.long within behind
+  shared-all {r = r} s long fits told = padded-is places (section_sizes n blocks) r long within behind
     where
       at : (j : ℕ) (t : Bool) → ltb j taken ≡ t → j < n → get_or r j 0 ≡ get_or (section_sizes n blocks) j 0
       at j true e h =
           let below : j < taken = ltb-true j taken e in
-          s.under j below ∙ left_at j fits ∙ get_or-take taken (section_sizes n blocks) j 0 below
-      at j false e h = s.done j (omega arith) (ltb-false j taken e)
+          s.below j 0 below ∙ left_at j fits ∙ get_or-take taken (section_sizes n blocks) j 0 below
+      at j false e h =
+          let from : taken ≤ j = ltb-false j taken e in told j (get_or sizes j 0) (get_or r j 0) from h (s.within j 0 from h)
 
       within : (j : ℕ) → j < length (section_sizes n blocks) → get_or r j 0 ≡ get_or (section_sizes n blocks) j 0
       within j h = at j (ltb j taken) refl (rw length-doubling at h)
@@ -135,7 +138,7 @@ module _ {n blocks places : ℕ} {sizes : List ℕ} {taken left : ℕ} (d : Doub
       behind : (j : ℕ) → length (section_sizes n blocks) ≤ j → get_or r j 0 ≡ 0
       behind j h =
           let far : n ≤ j = rw length-doubling at h in
-          s.ahead j (omega (arith, s.to))
+          s.above j 0 far
           ∙ left_at j fits
           ∙ get_or-eq_default (take taken (section_sizes n blocks)) 0 (rw (length_taken n blocks taken d.some) (omega (arith, d.some)))
 

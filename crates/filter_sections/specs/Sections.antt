@@ -1,8 +1,8 @@
 -- The sections of an adaptive filter: their sizes and boundaries in blocks, for any length and any number of sections.
-use Rattle.std.specs.Prelude.{Bool, cond, ◌&&◌, List, [], ◌∷◌, ℕ, zero, suc, ◌+◌, ◌-◌, ◌*◌, ◌/◌, ◌%◌, ltb, eqb, get_or}
-use Rattle.filter_sections.specs.declared.sections.Sections.{Sections}
+use Rattle.std.specs.Prelude.{Bool, cond, ◌&&◌, List, [], ◌∷◌, ℕ, zero, suc, ◌+◌, ◌-◌, ◌*◌, ◌/◌, ◌%◌, ltb, eqb, get_or, Result}
+use Rattle.aec3_common.specs.Answers.{answer_case}
 use Rattle.aec3_common.specs.Lists.{tab}
-use Rattle.aec3_common.specs.Refusal.{accepted, bad_sections}
+use Rattle.aec3_common.specs.Refusal.{unless, accepted, bad_sections}
 use Rattle.aec3_common.specs.Settings.{headroom_blocks, max_sections, sections_ok}
 
 -- n sections share the blocks evenly: each has the quotient, and the last the remainder too
@@ -38,9 +38,8 @@ boundaries n blocks headroom =
 abbrev pub padded : ℕ → List ℕ → List ℕ
 padded n xs = tab n (λ k. get_or xs k 0)
 
--- The answer: the boundaries and 0, or no boundaries and the refusal.
-unfoldable pub sections_answer : ℕ → ℕ → ℕ → Sections
+-- The answer: the boundaries, with zeros behind them, or the refusal under 3.
+unfoldable pub sections_answer : ℕ → ℕ → ℕ → Result (List ℕ) ℕ
 sections_answer n blocks samples =
-    cond (sections_ok n blocks samples)
-    (record { boundaries = padded (suc max_sections) (boundaries n blocks (headroom_blocks samples)); refused = accepted })
-    (record { boundaries = padded (suc max_sections) []; refused = bad_sections })
+    answer_case (unless (sections_ok n blocks samples) bad_sections accepted)
+    (padded (suc max_sections) (boundaries n blocks (headroom_blocks samples)))

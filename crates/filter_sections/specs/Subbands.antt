@@ -1,7 +1,7 @@
 -- The six subbands and the bands' maxima.
-use Rattle.std.specs.Prelude.{◌≡◌, Bool, cond, ◌&&◌, List, [], ◌∷◌, ℕ, ◌+◌, leb, ltb, eqb, Float, get_or}
+use Rattle.std.specs.Prelude.{◌≡◌, Bool, cond, ◌&&◌, List, [], ◌∷◌, ℕ, ◌+◌, leb, ltb, eqb, Float, get_or, count_by}
 use Rattle.aec3_common.specs.Lists.{tab}
-use Rattle.filter_sections.specs.declared.subbands.SubbandBands.{SubbandBands}
+use Rattle.std.specs.declared.ops.Range.{Range}
 
 -- the bands at which the subbands begin, after the first
 abbrev pub later_begins : List ℕ
@@ -12,17 +12,12 @@ unfoldable pub subband_begin : ℕ → ℕ
 subband_begin subband = get_or (1 ∷ later_begins) subband 65
 
 -- the bands that are summed in a subband: from its first to below the next one's first, the last subband's to 64
-unfoldable pub subband_bands : ℕ → SubbandBands
-subband_bands subband = record { begin = subband_begin subband; end = subband_begin (subband + 1) }
-
--- how many numbers of a list are at most k
-abbrev pub at_most : ℕ → List ℕ → ℕ
-at_most k [] = 0
-at_most k (x ∷ xs) = cond (leb x k) 1 0 + at_most k xs
+unfoldable pub subband_bands : ℕ → Range ℕ
+subband_bands subband = record { start = subband_begin subband; end = subband_begin (subband + 1) }
 
 -- the subband that a band maps to: as many later ones as begin at or below it; so band 0 maps to subband 0
 unfoldable pub band_to_subband : ℕ → ℕ
-band_to_subband band = at_most band later_begins
+band_to_subband band = count_by (λ begin. leb begin band) later_begins
 
 -- bands 0 to 31 have maximum max_l, the others max_h
 unfoldable pub max_erle : Float → Float → ℕ → Float

@@ -1,48 +1,31 @@
 // The sections of the adaptive filter: their sizes and boundaries in blocks.
 ghost use Rattle.std.specs.Prelude.{◌≡◌, cond, List, ℕ, ◌+◌, ◌-◌, ◌/◌, ◌%◌, ◌≤◌, ◌<◌, ◌^◌, length, get_or, take};
+ghost use Rattle.aec3_common.specs.Answers.{numbered};
 ghost use Rattle.filter_sections.specs.Sections.{takes, section_sizes, running_sums, boundaries, padded, sections_answer};
 ghost use Rattle.filter_sections.specs.Steps.{Doubled as Steps-as-Doubled};
 
-use aec3_common::refusal::{ACCEPTED, BAD_SECTIONS};
-use aec3_common::settings::{headroom_blocks, sections_ok};
+use aec3_common::entries::change;
+use aec3_common::settings::headroom_blocks;
+use aec3_common::{FilterLayout, Refusal};
 
-// The boundaries of up to eight sections, zeros behind them, and 0; or zeros and the number under which the settings
-// are turned away.
-#[derive(Clone, Copy)]
-pub struct Sections {
-    pub boundaries: [usize; 9],
-    pub refused: u32,
-}
-
-// The sizes so far, how many there are, and the blocks left for the sections left to share evenly.
-#[derive(Clone, Copy)]
+// The sizes so far, how many there are, and the blocks left for the sections left to share evenly. The table has a fixed size, as all memory
+// of the estimators has, so the count stands beside it.
+#[derive(Clone, Copy, Debug)]
 struct Doubled {
     sizes: [usize; 8],
     taken: usize,
     left: usize,
 }
 
-// The boundaries that settings give; number 3 is turned away.
-pub fn section_boundaries(
-    num_sections: usize,
-    filter_length_blocks: usize,
-    delay_headroom_samples: usize,
-) -> Sections
-    ensures { result ≡ sections_answer num_sections filter_length_blocks delay_headroom_samples }
+// The boundaries of up to eight sections, with zeros behind them; number 3 is turned away.
+pub fn section_boundaries(layout: FilterLayout) -> Result<[usize; 9], Refusal>
+    ensures { numbered result ≡ sections_answer layout.num_sections layout.filter_length_blocks layout.delay_headroom_samples }
 {
-    if sections_ok(num_sections, filter_length_blocks, delay_headroom_samples) {
-        let headroom = headroom_blocks(delay_headroom_samples);
-        let boundaries = set_sections_boundaries(num_sections, filter_length_blocks, headroom);
-        Sections {
-            boundaries,
-            refused: ACCEPTED,
-        }
-    } else {
-        Sections {
-            boundaries: [0; 9],
-            refused: BAD_SECTIONS,
-        }
+    if !layout.ok() {
+        return Err(Refusal::BadSections);
     }
+    let headroom = headroom_blocks(layout.delay_headroom_samples);
+    Ok(set_sections_boundaries(layout.num_sections, layout.filter_length_blocks, headroom))
 }
 
 // The boundaries of judged settings. Sums stay small within these bounds.
@@ -54,15 +37,9 @@ fn set_sections_boundaries(sections: usize, blocks: usize, headroom: usize) -> [
     if sections == 1 {
         [0, blocks, 0, 0, 0, 0, 0, 0, 0]
     } else {
-        let sizes = define_filter_section_sizes(sections, saturating_sub(blocks, headroom));
+        let sizes = define_filter_section_sizes(sections, blocks.saturating_sub(headroom));
         running_sums(headroom, sections, sizes)
     }
-}
-
-fn saturating_sub(a: usize, b: usize) -> usize
-    ensures { result ≡ a - b }
-{
-    if b < a { a - b } else { 0 }
 }
 
 // from, and after it the running sums of the first sizes.
@@ -72,6 +49,7 @@ fn running_sums(from: usize, sections: usize, sizes: [usize; 8]) -> [usize; 9]
     ensures { result ≡ padded 9 (running_sums from (take sections sizes)) }
 {
     let mut r = [from, 0, 0, 0, 0, 0, 0, 0, 0];
+    // Each sum is made of the one before it in the same table: a chain over the sizes would need that one beside it, and be no plainer.
     for k in 0..sections {
         r[k + 1] = r[k] + sizes[k];
     }
@@ -105,6 +83,7 @@ fn double_sizes(sections: usize, blocks: usize) -> Doubled
     let mut taken = 0;
     let mut left = blocks;
     let mut size = 2;
+    // How many take one is what is sought: a `for` would count to a number that is not known, and leave by `break`.
     while section_takes(size, sections - taken, left) {
         sizes[taken] = size;
         left -= size;
@@ -132,11 +111,13 @@ fn share_evenly(d: Doubled, sections: usize, blocks: usize) -> [usize; 8]
     requires sections_bound { (sections ≤ 8) × (blocks < 2 ^ 32) }
     ensures { result ≡ padded 8 (section_sizes sections blocks) }
 {
-    let taken = d.taken;
-    let left = d.left;
-    let mut sizes = d.sizes;
-    for k in taken..sections {
-        sizes[k] = even_share(left, sections - taken, k + 1 == sections);
-    }
+    let Doubled {
+        mut sizes,
+        taken,
+        left,
+    } = d;
+    change(&mut sizes, taken, sections, |k, _| {
+        even_share(left, sections - taken, k + 1 == sections)
+    });
     sizes
 }

@@ -1,13 +1,12 @@
 // The six subbands and the bands' maxima.
-ghost use Rattle.std.specs.Prelude.{◌≡◌, cond, ◌≤◌, leb};
+ghost use Rattle.std.specs.Prelude.{◌≡◌};
 ghost use Rattle.filter_sections.specs.Subbands.{subband_begin, subband_bands, band_to_subband, max_erle};
 
-// The bands that are summed in a subband: from begin on, below end.
-#[derive(Clone, Copy)]
-pub struct SubbandBands {
-    pub begin: usize,
-    pub end: usize,
-}
+use aec3_common::ErleLimits;
+use std::ops::Range;
+
+// The bands at which the subbands begin, after the first.
+const LATER_BEGINS: [usize; 5] = [8, 16, 24, 32, 48];
 
 fn subband_begin(subband: usize) -> usize
     ensures { result ≡ subband_begin subband }
@@ -23,26 +22,11 @@ fn subband_begin(subband: usize) -> usize
     }
 }
 
-// The bands of a subband; none where there is no such subband.
-pub fn subband_bands(subband: usize) -> SubbandBands
+// The bands that are summed in a subband; none where there is no such subband.
+pub fn subband_bands(subband: usize) -> Range<usize>
     ensures { result ≡ subband_bands subband }
 {
-    if subband < 6 {
-        SubbandBands {
-            begin: subband_begin(subband),
-            end: subband_begin(subband + 1),
-        }
-    } else {
-        SubbandBands { begin: 65, end: 65 }
-    }
-}
-
-// 1 where a band is at or above a subband's begin, else 0.
-fn reaches(begin: usize, band: usize) -> usize
-    ensures value { result ≡ cond (leb begin band) 1 0 }
-    ensures upper_bound { result ≤ 1 }
-{
-    if begin <= band { 1 } else { 0 }
+    subband_begin(subband)..subband_begin(subband.saturating_add(1))
 }
 
 // The subband that a band maps to.
@@ -50,13 +34,17 @@ fn reaches(begin: usize, band: usize) -> usize
 pub fn band_to_subband(band: usize) -> usize
     ensures { result ≡ band_to_subband band }
 {
-    reaches(8, band) + reaches(16, band) + reaches(24, band) + reaches(32, band) + reaches(48, band)
+    LATER_BEGINS.iter().filter(|&&begin| begin <= band).count()
 }
 
 // The greatest ERLE of a band.
 #[tactic(auto, unfolding(crate::specs::Subbands::max_erle))]
-pub fn max_erle(max_l: f32, max_h: f32, band: usize) -> f32
-    ensures { result ≡ max_erle max_l max_h band }
+pub fn max_erle(limits: ErleLimits, band: usize) -> f32
+    ensures { result ≡ max_erle limits.max_l limits.max_h band }
 {
-    if band < 32 { max_l } else { max_h }
+    if band < 32 {
+        limits.max_l
+    } else {
+        limits.max_h
+    }
 }

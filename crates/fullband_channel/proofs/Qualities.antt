@@ -2,7 +2,7 @@
 use Rattle.std.proofs.Common.{◌≡◌, Bool, true, refl}
 use lib.Ieee.{Float, of_bits, le}
 use Rattle.aec3_common.specs.Binary32.{zero32, one32, larger, smaller, is_finite, number_from}
-use Rattle.aec3_common.specs.Lists.{every}
+use Rattle.std.specs.List.{list_all}
 use Rattle.aec3_common.proofs.Choices.{cond_has}
 use Rattle.aec3_common.proofs.Floats.{larger-has, smaller-has, larger-not-below-second, smaller-not-above-second}
 use Rattle.aec3_common.proofs.Sizes.{sized-finite}
@@ -32,16 +32,16 @@ clamped-from-0-to-1 q p =
 -- ---- the quality that is answered
 
 module _ (i : ErleInstantaneous) (bounded : Bounded i) where
-  pub quality-finite : (to_zero to_one : Bool) → every is_finite (optional_values (quality_of to_zero to_one i)) ≡ true
-  unfolding quality_of every
+  pub quality-finite : (to_zero to_one : Bool) → list_all is_finite (optional_values (quality_of to_zero to_one i)) ≡ true
+  unfolding quality_of
   quality-finite to_zero to_one =
-      cond_has (λ (o : OptionalNumber). every is_finite (optional_values o) ≡ true) (is_present i.erle_log2)
+      cond_has (λ (o : OptionalNumber). list_all is_finite (optional_values o) ≡ true) (is_present i.erle_log2)
       (λ e. rw (clamped-finite to_zero to_one i.inst_quality_estimate (sized-finite bounded.quality)))
       (λ e. refl)
 
-  pub quality-from-0-to-1 : every (number_from zero32 one32) (optional_values (quality_of true true i)) ≡ true
-  unfolding quality_of every
+  pub quality-from-0-to-1 : list_all (number_from zero32 one32) (optional_values (quality_of true true i)) ≡ true
+  unfolding quality_of
   quality-from-0-to-1 =
-      cond_has (λ (o : OptionalNumber). every (number_from zero32 one32) (optional_values o) ≡ true) (is_present i.erle_log2)
+      cond_has (λ (o : OptionalNumber). list_all (number_from zero32 one32) (optional_values o) ≡ true) (is_present i.erle_log2)
       (λ e. rw (clamped-from-0-to-1 i.inst_quality_estimate (sized-finite bounded.quality)))
       (λ e. refl)

@@ -1,5 +1,5 @@
 -- One channel's instantaneous ERLE: the log2 of the ratio of six points, its extremes, and the quality of the linear filter.
-use Rattle.std.specs.Prelude.{Bool, true, false, cond, ◌&&◌, List, [], ◌∷◌, ℕ, suc, eqb, Float}
+use Rattle.std.specs.Prelude.{Bool, true, false, cond, ◌&&◌, List, [], ◌∷◌, ℕ, ◌≤◌, suc, eqb, Float}
 use Rattle.std.specs.Float.{binary32}
 use Rattle.std.specs.Float.Ieee.{of_bits, add, sub, div, lt}
 use Rattle.aec3_common.specs.Binary32.{zero32, one32, larger, smaller, moved}
@@ -54,6 +54,10 @@ abbrev pub all_points : ℕ
 all_points = 6
 
 -- ---- one point
+
+-- there is room for a point: fewer than six are held
+abbrev pub HasRoom : ErleInstantaneous → Type 0
+HasRoom i = i.num_points ≤ 5
 
 -- log2 of (a number plus 0.001)
 abbrev pub log2_above : Float → Float

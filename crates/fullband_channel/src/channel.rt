@@ -1,44 +1,37 @@
 // One channel's record: its instantaneous ERLE, its figure and its hold.
-ghost use Rattle.std.specs.Prelude.{◌≡◌, ◌≤◌, length};
+ghost use Rattle.std.specs.Prelude.{◌≡◌, length};
 ghost use Rattle.aec3_common.specs.Spectra.{sum};
+ghost use Rattle.fullband_channel.specs.Instantaneous.{HasRoom};
 ghost use Rattle.fullband_channel.specs.Channel.{channel_ok, fresh_channel, with_point, one_block_less};
 
-use crate::instantaneous::{ErleInstantaneous, OptionalNumber, POINTS_TO_ACCUMULATE};
+use crate::instantaneous::{ErleInstantaneous, OptionalNumber, POINTS_TO_ACCUMULATE, PowerSums};
 use aec3_common::binary32::{GREATEST_SUM, is_within};
 use aec3_common::counts::fallen;
 use aec3_common::{larger, moved};
 
 const BLOCKS_TO_HOLD_ERLE: i32 = 100;
 
-#[derive(Clone, Copy)]
+#[derive(Clone, Copy, Debug, PartialEq)]
 pub struct FullBandChannel {
     pub instantaneous_erle: ErleInstantaneous,
     pub erle_time_domain_log2: f32,
     pub hold_counter_time_domain: i32,
 }
 
-#[derive(Clone, Copy)]
-struct PowerSums {
-    y2: f32,
-    e2: f32,
-}
-
-// The capture and the residual power of a block, each added up over all bands in order, beginning at plus zero. One loop for
-// both: the sums do not wait for each other.
+// The capture and the residual power of a block, each added up over all bands in order, beginning at plus zero. One walk for
+// both: the sums do not wait for each other, as two walks would.
 fn power_sums(y2: &[f32], e2: &[f32]) -> PowerSums
-    requires { (length y2.now ≡ 65) × (length e2.now ≡ 65) }
-    ensures { result ≡ (record { y2 = sum y2.entry.now; e2 = sum e2.now }) }
+    requires { length y2.now ≡ length e2.now }
+    ensures { result ≡ (record { y2 = sum y2.now; e2 = sum e2.now }) }
 {
-    let mut y2_sum = 0.0;
-    let mut e2_sum = 0.0;
-    for k in 0..65 {
-        y2_sum = y2_sum + y2[k];
-        e2_sum = e2_sum + e2[k];
-    }
-    PowerSums {
-        y2: y2_sum,
-        e2: e2_sum,
-    }
+    let none = PowerSums { y2: 0.0, e2: 0.0 };
+    y2.iter().zip(e2).fold(
+        none,
+        |sums, (&y2, &e2)| PowerSums {
+            y2: sums.y2 + y2,
+            e2: sums.e2 + e2,
+        },
+    )
 }
 
 impl FullBandChannel {
@@ -64,15 +57,14 @@ impl FullBandChannel {
             & is_within(inst.e2_accum, GREATEST_SUM)
     }
 
-    // The channel with one more point: the sums of a block's capture and residual power.
-    fn with_point(self, min_erle_log2: f32, y2_sum: f32, e2_sum: f32) -> FullBandChannel
-        requires { self.instantaneous_erle.num_points ≤ 5 }
-        ensures { result ≡ with_point min_erle_log2 y2_sum e2_sum self }
+    // The channel with one more point.
+    #[tactic(auto, unfolding(crate::specs::Channel::with_point))]
+    fn with_point(self, min_erle_log2: f32, point: PowerSums) -> FullBandChannel
+        requires { HasRoom self.instantaneous_erle }
+        ensures { result ≡ with_point min_erle_log2 point.y2 point.e2 self }
     {
-        let inst = self.instantaneous_erle;
-        let new = inst.new_erle_log2(y2_sum, e2_sum);
-        let held = inst.accumulate(y2_sum, e2_sum);
-        match new {
+        let held = self.instantaneous_erle.accumulate(point);
+        match self.instantaneous_erle.new_erle_log2(point) {
             OptionalNumber::Number(value) => {
                 let figure = moved(self.erle_time_domain_log2, value, 0.05);
                 FullBandChannel {
@@ -83,31 +75,30 @@ impl FullBandChannel {
             }
             OptionalNumber::Absent => FullBandChannel {
                 instantaneous_erle: held,
-                erle_time_domain_log2: self.erle_time_domain_log2,
-                hold_counter_time_domain: self.hold_counter_time_domain,
+                ..self
             },
         }
     }
 
     // One update of a channel that accumulates.
     pub fn update(self, min_erle_log2: f32, y2: &[f32], e2: &[f32]) -> FullBandChannel
-        requires { (self.instantaneous_erle.num_points ≤ 5) × (length y2.now ≡ 65) × (length e2.now ≡ 65) }
+        requires room { HasRoom self.instantaneous_erle }
+        requires as_long { length y2.now ≡ length e2.now }
         ensures { result ≡ one_block_less (with_point min_erle_log2 (sum y2.now) (sum e2.now) self) }
     {
-        let sums = power_sums(y2, e2);
-        let channel = self.with_point(min_erle_log2, sums.y2, sums.e2);
-        channel.decay()
+        let point = power_sums(y2, e2);
+        self.with_point(min_erle_log2, point).decay()
     }
 
     // One block less to hold. In an update of a channel that does not accumulate this is all.
+    #[tactic(auto, unfolding(crate::specs::Channel::one_block_less), using(crate::proofs::Holds::holds))]
     pub fn decay(mut self) -> FullBandChannel
         ensures { result ≡ one_block_less self }
     {
         let hold = fallen(self.hold_counter_time_domain);
         self.hold_counter_time_domain = hold;
         if hold == 0 {
-            let inst = self.instantaneous_erle;
-            self.instantaneous_erle = inst.reset_accumulators();
+            self.instantaneous_erle = self.instantaneous_erle.reset_accumulators();
         }
         self
     }

@@ -1,6 +1,6 @@
 // One channel's instantaneous ERLE: the log2 of the ratio of six points, its extremes, and the quality of the linear filter.
-ghost use Rattle.std.specs.Prelude.{◌≡◌, ◌≤◌};
-ghost use Rattle.fullband_channel.specs.Instantaneous.{new_log2, accumulated, greatest_with, least_with, new_quality, quality_with, accumulators_reset, lowered_quality, clamped_quality, quality_of, holding as Instantaneous·holding, learnt as Instantaneous·learnt, fresh};
+ghost use Rattle.std.specs.Prelude.{◌≡◌};
+ghost use Rattle.fullband_channel.specs.Instantaneous.{HasRoom, new_log2, accumulated, greatest_with, least_with, new_quality, quality_with, accumulators_reset, clamped_quality, quality_of, learnt as Instantaneous·learnt, fresh};
 
 use aec3_common::log2::approx_log2;
 use aec3_common::{larger, moved, smaller};
@@ -9,14 +9,14 @@ pub const EPSILON: f32 = 0.001;
 
 pub const POINTS_TO_ACCUMULATE: u32 = 6;
 
-// A number that may not be there.
-#[derive(Clone, Copy)]
+// A number that may not be there. No Option: the customer's paper asks for these two cases.
+#[derive(Clone, Copy, Debug, PartialEq)]
 pub enum OptionalNumber {
     Absent,
     Number(f32),
 }
 
-#[derive(Clone, Copy)]
+#[derive(Clone, Copy, Debug, PartialEq)]
 pub struct ErleInstantaneous {
     pub erle_log2: OptionalNumber,
     pub inst_quality_estimate: f32,
@@ -25,6 +25,20 @@ pub struct ErleInstantaneous {
     pub y2_accum: f32,
     pub e2_accum: f32,
     pub num_points: u32,
+}
+
+// A point: the capture and the residual power of a block, each added up over all bands.
+#[derive(Clone, Copy, Debug)]
+pub(crate) struct PowerSums {
+    pub y2: f32,
+    pub e2: f32,
+}
+
+// Which ends of 0 to 1 no quality that is answered lies beyond.
+#[derive(Clone, Copy, Debug, PartialEq, Eq)]
+pub struct QualityClamps {
+    pub to_zero: bool,
+    pub to_one: bool,
 }
 
 fn greatest_with(value: f32, greatest: f32) -> f32
@@ -65,29 +79,26 @@ fn quality_with(new: f32, quality: f32) -> f32
     }
 }
 
-// A quality, not above 1 if the switch is on.
-fn lowered(to_one: bool, quality: f32) -> f32
-    ensures { result ≡ lowered_quality to_one quality }
-{
-    if to_one {
-        smaller(quality, 1.0)
-    } else {
-        quality
-    }
-}
-
-#[tactic(auto, unfolding(crate::specs::Instantaneous::clamped_quality))]
-fn clamped_quality(to_zero: bool, to_one: bool, quality: f32) -> f32
-    ensures { result ≡ clamped_quality to_zero to_one quality }
-{
-    if to_zero {
-        lowered(to_one, larger(quality, 0.0))
-    } else {
-        lowered(to_one, quality)
+impl QualityClamps {
+    #[tactic(auto, unfolding(crate::specs::Instantaneous::clamped_quality))]
+    fn clamp(self, quality: f32) -> f32
+        ensures { result ≡ clamped_quality self.to_zero self.to_one quality }
+    {
+        let raised = if self.to_zero {
+            larger(quality, 0.0)
+        } else {
+            quality
+        };
+        if self.to_one {
+            smaller(raised, 1.0)
+        } else {
+            raised
+        }
     }
 }
 
 impl ErleInstantaneous {
+    #[tactic(auto, unfolding(crate::specs::Instantaneous::fresh, crate::specs::Instantaneous::cleared))]
     pub fn new() -> ErleInstantaneous
         ensures { result ≡ fresh }
     {
@@ -103,28 +114,25 @@ impl ErleInstantaneous {
     }
 
     // The extremes stay.
-    #[tactic(auto, unfolding(crate::specs::Instantaneous::accumulators_reset, crate::specs::Instantaneous::cleared))]
+    #[tactic(auto, unfolding(crate::specs::Instantaneous::accumulators_reset, crate::specs::Instantaneous::fresh, crate::specs::Instantaneous::cleared))]
     pub fn reset_accumulators(self) -> ErleInstantaneous
         ensures { result ≡ accumulators_reset self }
     {
         ErleInstantaneous {
-            erle_log2: OptionalNumber::Absent,
-            inst_quality_estimate: 0.0,
             max_erle_log2: self.max_erle_log2,
             min_erle_log2: self.min_erle_log2,
-            y2_accum: 0.0,
-            e2_accum: 0.0,
-            num_points: 0,
+            ..ErleInstantaneous::new()
         }
     }
 
     // The log2 value that a point brings: none before the sixth, and none without residual.
-    pub(crate) fn new_erle_log2(self, y2_sum: f32, e2_sum: f32) -> OptionalNumber
-        requires { self.num_points ≤ 5 }
-        ensures { result ≡ new_log2 y2_sum e2_sum self }
+    #[tactic(auto, unfolding(crate::specs::Instantaneous::new_log2))]
+    pub(crate) fn new_erle_log2(self, point: PowerSums) -> OptionalNumber
+        requires { HasRoom self }
+        ensures { result ≡ new_log2 point.y2 point.e2 self }
     {
-        let y2 = self.y2_accum + y2_sum;
-        let e2 = self.e2_accum + e2_sum;
+        let y2 = self.y2_accum + point.y2;
+        let e2 = self.e2_accum + point.e2;
         if (self.num_points + 1 == POINTS_TO_ACCUMULATE) & (e2 > 0.0) {
             OptionalNumber::Number(approx_log2(y2 / e2 + EPSILON))
         } else {
@@ -133,30 +141,27 @@ impl ErleInstantaneous {
     }
 
     // The sums with one more point. The sixth clears them, whether it brought a value or not.
-    pub(crate) fn accumulate(self, y2_sum: f32, e2_sum: f32) -> ErleInstantaneous
-        requires { self.num_points ≤ 5 }
-        ensures { result ≡ accumulated y2_sum e2_sum self }
+    #[tactic(auto, unfolding(crate::specs::Instantaneous::accumulated, crate::specs::Instantaneous::holding))]
+    pub(crate) fn accumulate(self, point: PowerSums) -> ErleInstantaneous
+        requires { HasRoom self }
+        ensures { result ≡ accumulated point.y2 point.e2 self }
     {
-        if self.num_points + 1 == POINTS_TO_ACCUMULATE {
-            self.holding(0.0, 0.0, 0)
+        let num_points = self.num_points + 1;
+        if num_points == POINTS_TO_ACCUMULATE {
+            ErleInstantaneous {
+                y2_accum: 0.0,
+                e2_accum: 0.0,
+                num_points: 0,
+                ..self
+            }
         } else {
-            self.holding(
-                self.y2_accum + y2_sum,
-                self.e2_accum + e2_sum,
-                self.num_points + 1,
-            )
+            ErleInstantaneous {
+                y2_accum: self.y2_accum + point.y2,
+                e2_accum: self.e2_accum + point.e2,
+                num_points,
+                ..self
+            }
         }
-    }
-
-    // The same with other sums and another count of points.
-    #[tactic(auto, unfolding(crate::specs::Instantaneous::holding))]
-    fn holding(mut self, y2: f32, e2: f32, points: u32) -> ErleInstantaneous
-        ensures { result ≡ Instantaneous·holding y2 e2 points self }
-    {
-        self.y2_accum = y2;
-        self.e2_accum = e2;
-        self.num_points = points;
-        self
     }
 
     // Extremes and quality estimate moved by a new log2 value.
@@ -172,23 +177,19 @@ impl ErleInstantaneous {
             inst_quality_estimate: quality_with(quality, self.inst_quality_estimate),
             max_erle_log2: greatest,
             min_erle_log2: least,
-            y2_accum: self.y2_accum,
-            e2_accum: self.e2_accum,
-            num_points: self.num_points,
+            ..self
         }
     }
 
     // The quality after clamping, absent while the log2 value is.
-    pub fn quality_estimate(self, to_zero: bool, to_one: bool) -> OptionalNumber
-        ensures { result ≡ quality_of to_zero to_one self }
+    #[tactic(auto, unfolding(crate::specs::Instantaneous::quality_of))]
+    pub fn quality_estimate(self, clamps: QualityClamps) -> OptionalNumber
+        ensures { result ≡ quality_of clamps.to_zero clamps.to_one self }
     {
-        let erle_log2 = self.erle_log2;
-        match erle_log2 {
-            OptionalNumber::Number(_) => OptionalNumber::Number(clamped_quality(
-                to_zero,
-                to_one,
-                self.inst_quality_estimate,
-            )),
+        match self.erle_log2 {
+            OptionalNumber::Number(_) => {
+                OptionalNumber::Number(clamps.clamp(self.inst_quality_estimate))
+            }
             OptionalNumber::Absent => OptionalNumber::Absent,
         }
     }

@@ -1,17 +1,18 @@
 -- After any list of calls no figure is below log2 of (the minimum plus 0.001), and figures, extremes and qualities are numbers.
 use mathlib.Core.Path.{◌≡◌, refl}
-use mathlib.Core.Bool.{Bool, true, ◌&&◌}
+use mathlib.Core.Bool.{Bool, true}
 use mathlib.Core.List.{List, [], ◌∷◌}
 use Prim.Native.Nat.{ℕ, ◌^◌, ◌<◌}
 use native.Mathlib.Nat.{le_trans, mul-le-mul_left}
 use lib.Dec.{eqb, ltb, lit≤}
 use lib.IntN.{pos}
 use lib.Ieee.{Float, of_bits, le}
+use Rattle.aec3_common.specs.Answers.{answer_case}
 use Rattle.aec3_common.specs.Binary32.{zero32, one32, smaller, is_finite, number_from}
-use Rattle.aec3_common.specs.Lists.{every}
+use Rattle.std.specs.List.{list_all}
 use Rattle.aec3_common.specs.Refusal.{accepted}
 use Rattle.aec3_common.proofs.Choices.{and_left, and_right, cond_has}
-use Rattle.aec3_common.proofs.Every.{every_first}
+use Rattle.aec3_common.proofs.Every.{list_all_first}
 use Rattle.aec3_common.proofs.Floats.{not-below-itself, smaller-has}
 use Rattle.aec3_common.proofs.Grid.{held-power, sized}
 use Rattle.aec3_common.proofs.Sizes.{product-of, sized-finite}
@@ -22,9 +23,8 @@ use Rattle.fullband_channel.proofs.Bounded.{FigureSized}
 use Rattle.fullband_channel.proofs.Qualities.{quality-finite, quality-from-0-to-1}
 use Rattle.fullband_erle_estimator.specs.declared.settings.FullBandSettings.{FullBandSettings}
 use Rattle.fullband_erle_estimator.specs.declared.FullBandErleEstimator.{FullBandErleEstimator}
-use Rattle.fullband_erle_estimator.specs.declared.FullBandAnswer.{FullBandAnswer}
-use Rattle.fullband_erle_estimator.specs.FullBand.{state_refusal, min_log2, start_answer, no_channel, channel_at, least_from, least_or, fullband_log2, decibels, quality_answer}
-use Rattle.fullband_erle_estimator.specs.Runs.{run, figure_of, NeverBadState, NotBelowMinimum, FiguresNotBelowMinimum, ChannelNumbers, AreNumbers, FiguresAreNumbers}
+use Rattle.fullband_erle_estimator.specs.FullBand.{settings_refusal, state_refusal, min_log2, started, no_channel, channel_at, least_from, least_or, fullband_log2, decibels, quality_answer, quality_values}
+use Rattle.fullband_erle_estimator.specs.Runs.{figure_of, NotBelowMinimum, FiguresNotBelowMinimum, ChannelNumbers, AreNumbers, FiguresAreNumbers}
 use Rattle.fullband_erle_estimator.proofs.Runs.{Kept, min-number, min-sized, run-kept, never-bad-state}
 
 -- ---- the least figure
@@ -32,8 +32,7 @@ use Rattle.fullband_erle_estimator.proofs.Runs.{Kept, min-number, min-sized, run
 -- what the figure of each channel has, the least has
 least-from-has :
     (p : Float → Bool) (x : Float) (cs : List FullBandChannel)
-    → p x ≡ true → every (λ (c : FullBandChannel). p c.erle_time_domain_log2) cs ≡ true → p (least_from x cs) ≡ true
-unfolding least_from every
+    → p x ≡ true → list_all (λ (c : FullBandChannel). p c.erle_time_domain_log2) cs ≡ true → p (least_from x cs) ≡ true
 least-from-has p x [] h all = h
 least-from-has p x (c ∷ cs) h all =
     let figure = c.erle_time_domain_log2 in
@@ -43,8 +42,8 @@ least-from-has p x (c ∷ cs) h all =
 
 least-has :
     (p : Float → Bool) (none : Float) (cs : List FullBandChannel)
-    → p none ≡ true → every (λ (c : FullBandChannel). p c.erle_time_domain_log2) cs ≡ true → p (least_or none cs) ≡ true
-unfolding least_or every
+    → p none ≡ true → list_all (λ (c : FullBandChannel). p c.erle_time_domain_log2) cs ≡ true → p (least_or none cs) ≡ true
+unfolding least_or
 least-has p none [] h all = h
 least-has p none (c ∷ cs) h all =
     least-from-has p c.erle_time_domain_log2 cs (and_left (p c.erle_time_domain_log2) _ all) (and_right (p c.erle_time_domain_log2) _ all)
@@ -57,7 +56,7 @@ unfolding fullband_log2
 fullband-has p g s kept least each =
     rw kept.settings
     (least-has p (min_log2 g) _ least
-    (every_first (λ (c : FullBandChannel). p c.erle_time_domain_log2) g.num_capture_channels s.channels no_channel each))
+    (list_all_first (λ (c : FullBandChannel). p c.erle_time_domain_log2) g.num_capture_channels s.channels no_channel each))
 
 pub not-below-minimum : (g : FullBandSettings) (s : FullBandErleEstimator) → Kept g s → NotBelowMinimum g s
 not-below-minimum g s kept =
@@ -65,9 +64,10 @@ not-below-minimum g s kept =
     let each : (ch : ℕ) → ch < g.num_capture_channels → le min (figure_of s ch) ≡ true = λ ch h. (kept.channels ch h).figure in
     record { channels = each; least = fullband-has (le min) g s kept (not-below-itself min (min-number g)) each }
 
-pub figures-not-below-minimum : (g : FullBandSettings) → (start_answer g).refused ≡ accepted → FiguresNotBelowMinimum g (start_answer g).state
-unfolding FiguresNotBelowMinimum start_answer
-figures-not-below-minimum g e calls = not-below-minimum g (run (start_answer g).state calls) (run-kept g e calls)
+pub figures-not-below-minimum :
+    (g : FullBandSettings) {start : FullBandErleEstimator} → start ≡ started g → settings_refusal g ≡ accepted → FiguresNotBelowMinimum g start
+unfolding FiguresNotBelowMinimum
+figures-not-below-minimum g same passed calls = not-below-minimum g _ (run-kept g passed same calls)
 
 -- ---- numbers
 
@@ -80,21 +80,24 @@ decibels-finite x (sized s q few m) =
 -- what a state keeps tells that its figures, extremes and qualities are numbers
 module _ (g : FullBandSettings) (s : FullBandErleEstimator) (kept : Kept g s) where
   channel-numbers : (ch : ℕ) → ch < g.num_capture_channels → ChannelNumbers g s ch
-  unfolding quality_answer every
+  unfolding quality_answer
   channel-numbers ch h =
       let c = kept.channels ch h in
       let i = (channel_at s ch).instantaneous_erle in
-      let here = eqb (state_refusal s) accepted && ltb ch s.settings.num_capture_channels in
-      let values : (Float → Bool) → OptionalNumber → Type 0 = λ p o. every p (optional_values o) ≡ true in
+      let here = ltb ch s.settings.num_capture_channels in
+      let values : (Float → Bool) → OptionalNumber → Type 0 = λ p o. list_all p (optional_values o) ≡ true in
+      let answered : (p : Float → Bool) → OptionalNumber → Type 0 = λ p o. list_all p (quality_values (answer_case (state_refusal s) o)) ≡ true in
+      let answers : (p : Float → Bool) (o : OptionalNumber) → values p o → answered p o =
+      λ p o has. cond_has (λ answer. list_all p (quality_values answer) ≡ true) (eqb (state_refusal s) accepted) (λ e. has) (λ e. refl) in
       record {
         figure = sized-finite c.sized;
         greatest = sized-finite c.bounded.greatest;
         least = sized-finite c.bounded.least;
-        quality = cond_has (values is_finite) here (λ e. quality-finite i c.bounded _ _) (λ e. refl);
+        quality = answers is_finite _ (cond_has (values is_finite) here (λ e. quality-finite i c.bounded _ _) (λ e. refl));
         clamped = λ zero one.
             let to_zero : s.settings.clamp_quality_estimate_to_zero ≡ true = rw kept.settings zero in
             let to_one : s.settings.clamp_quality_estimate_to_one ≡ true = rw kept.settings one in
-            cond_has (values (number_from zero32 one32)) here (λ e. rw (to_zero, to_one) (quality-from-0-to-1 i c.bounded)) (λ e. refl);
+            answers (number_from zero32 one32) _ (cond_has (values (number_from zero32 one32)) here (λ e. rw (to_zero, to_one) (quality-from-0-to-1 i c.bounded)) (λ e. refl));
       }
 
   pub are-numbers : AreNumbers g s
@@ -108,20 +111,10 @@ module _ (g : FullBandSettings) (s : FullBandErleEstimator) (kept : Kept g s) wh
             (λ ch h. decibels-finite (figure_of s ch) (kept.channels ch h).sized);
       }
 
-pub figures-are-numbers : (g : FullBandSettings) → (start_answer g).refused ≡ accepted → FiguresAreNumbers g (start_answer g).state
-unfolding FiguresAreNumbers start_answer
-figures-are-numbers g e calls = are-numbers g (run (start_answer g).state calls) (run-kept g e calls)
-
--- ---- a start
+pub figures-are-numbers :
+    (g : FullBandSettings) {start : FullBandErleEstimator} → start ≡ started g → settings_refusal g ≡ accepted → FiguresAreNumbers g start
+unfolding FiguresAreNumbers
+figures-are-numbers g same passed calls = are-numbers g _ (run-kept g passed same calls)
 
 -- what an accepted start promises of the state that it answers with
-pub record Promises (g : FullBandSettings) (s : FullBandErleEstimator) : Type 0 where
-  pub never_bad_state : NeverBadState s
-  pub not_below_minimum : FiguresNotBelowMinimum g s
-  pub are_numbers : FiguresAreNumbers g s
-
--- what is answered by the definition promises them
-pub start-promises : (g : FullBandSettings) {r : FullBandAnswer} → r ≡ start_answer g → r.refused ≡ accepted → Promises g r.state
-start-promises g same =
-    rw same
-    (λ e. record { never_bad_state = never-bad-state g e; not_below_minimum = figures-not-below-minimum g e; are_numbers = figures-are-numbers g e })
+pub ruleset promises = (never-bad-state, figures-not-below-minimum, figures-are-numbers)

@@ -1,21 +1,24 @@
 -- What the judging of a state tells; the claim that log2 of the minimum is asked of a positive number.
-use mathlib.Core.Path.{◌≡◌}
-use mathlib.Core.Bool.{Bool, true, false, ◌&&◌}
+use mathlib.Core.Path.{◌≡◌, refl}
+use mathlib.Core.Bool.{Bool, true, false, cond, ◌&&◌}
 use Prim.Native.Nat.{ℕ, ◌≤◌, ◌<◌}
 use native.Mathlib.Omega.{arith}
-use borrow.Author.Tests.{eqb-true}
-use lib.Dec.{T, eqb}
+use borrow.Author.Tests.{eqb-true, ltb-true}
+use lib.Dec.{T, eqb, ltb}
 use lib.Ieee.{Float, nan, inf, fin, of_bits, le}
 use lib.Ieee.Positive.{above, above_of_le}
 use lib.ListN.{length, take}
 use lib.Seq.{get_or-take, length-take-le}
+use Rattle.std.proofs.lemmas.List.{get_or_past, length-take}
 use Rattle.aec3_common.specs.Binary32.{one32}
-use Rattle.aec3_common.specs.Lists.{every}
+use Rattle.std.specs.List.{list_all}
 use Rattle.aec3_common.specs.Refusal.{accepted}
 use Rattle.aec3_common.proofs.Calls.{limits-passed, some-channels, few-channels}
 use Rattle.aec3_common.proofs.Choices.{and_left, and_right, each-of-four}
-use Rattle.aec3_common.proofs.Every.{every-at}
+use Rattle.aec3_common.proofs.Every.{list_all-at}
 use Rattle.aec3_common.proofs.Rounding.{holds, Signed, infinite, finite}
+use Rattle.fullband_channel.specs.declared.instantaneous.OptionalNumber.TheVariants.{Absent}
+use Rattle.fullband_channel.specs.Instantaneous.{quality_of}
 use Rattle.fullband_channel.specs.Channel.{channel_ok}
 use Rattle.fullband_channel.proofs.Judged.{epsilon-above}
 use Rattle.fullband_erle_estimator.specs.declared.FullBandErleEstimator.{FullBandErleEstimator}
@@ -64,8 +67,23 @@ module _ (s : FullBandErleEstimator) (ok : state_ok s ≡ true) where
   channel-passed ch long h =
       let n = s.settings.num_capture_channels in
       let records = take n s.channels in
-      let all = and_right (eqb (settings_refusal s.settings) accepted) (every channel_ok records) ok in
+      let all = and_right (eqb (settings_refusal s.settings) accepted) (list_all channel_ok records) ok in
       let few = state-few in
       let size = length-take-le n s.channels (omega arith) in
-      let one = every-at channel_ok records no_channel ch all (omega arith) in
+      let one = list_all-at channel_ok records no_channel ch all (omega arith) in
       rw (get_or-take n s.channels ch no_channel h) at one
+
+-- a channel that the state does not have shows no quality
+pub no_quality :
+    (s : FullBandErleEstimator) (ch : ℕ) (to_zero to_one : Bool) → length (take s.settings.num_capture_channels s.channels) ≤ ch
+    → cond (ltb ch s.settings.num_capture_channels) (quality_of to_zero to_one (channel_at s ch).instantaneous_erle) Absent ≡ Absent
+unfolding quality_of
+no_quality s ch to_zero to_one past = go (ltb ch s.settings.num_capture_channels) refl
+  where
+    go : (here : Bool) → ltb ch s.settings.num_capture_channels ≡ here
+        → cond here (quality_of to_zero to_one (channel_at s ch).instantaneous_erle) Absent ≡ Absent
+    go true e =
+        let below : ch < s.settings.num_capture_channels = ltb-true ch s.settings.num_capture_channels e in
+        let beyond : length s.channels ≤ ch = omega (arith, length-take s.settings.num_capture_channels s.channels) in
+        rw (get_or_past s.channels ch no_channel beyond)
+    go false e = refl

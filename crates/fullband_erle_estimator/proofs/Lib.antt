@@ -1,5 +1,4 @@
 pub mod Judged
-pub mod Least
 pub mod Updates
 pub mod Constants
 pub mod Cases

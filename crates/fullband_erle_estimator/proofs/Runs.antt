@@ -12,10 +12,10 @@ use Rattle.aec3_common.specs.Binary32.{greatest_value, within, values_ok}
 use Rattle.aec3_common.specs.Calls.{Call, update, reset}
 use Rattle.aec3_common.specs.Refusal.{accepted, bad_state}
 use Rattle.aec3_common.specs.Spectra.{part, sum}
-use Rattle.aec3_common.proofs.Bands.{part_length, part-every}
+use Rattle.aec3_common.proofs.Bands.{part_length, part-list_all}
 use Rattle.aec3_common.proofs.Calls.{UpdateOk, few-channels, update-ok, update-not-20, run-keeps}
 use Rattle.aec3_common.proofs.Choices.{cond_has}
-use Rattle.aec3_common.proofs.Every.{every_first}
+use Rattle.aec3_common.proofs.Every.{list_all_first}
 use Rattle.aec3_common.proofs.Numbers.{number, UpTo, no-sum, sum-up-to, log2-number}
 use Rattle.aec3_common.proofs.Tables.{get_or-tab, get_or-tab-first}
 use Rattle.fullband_channel.specs.declared.channel.FullBandChannel.{FullBandChannel}
@@ -25,7 +25,7 @@ use Rattle.fullband_channel.proofs.Bounded.{FigureSized, log2-above-figure}
 use Rattle.fullband_channel.proofs.Kept.{SumOf, ChannelKept, fresh_kept, after_kept, channel-ok}
 use Rattle.fullband_erle_estimator.specs.declared.settings.FullBandSettings.{FullBandSettings}
 use Rattle.fullband_erle_estimator.specs.declared.FullBandErleEstimator.{FullBandErleEstimator}
-use Rattle.fullband_erle_estimator.specs.FullBand.{settings_refusal, state_ok, state_refusal, update_refusal, min_log2, started, start_answer, reset_answer, no_channel, channel_at, updated, update_answer}
+use Rattle.fullband_erle_estimator.specs.FullBand.{settings_refusal, state_ok, state_refusal, update_refusal, min_log2, started, reset_answer, no_channel, channel_at, updated, update_answer}
 use Rattle.fullband_erle_estimator.specs.Runs.{answer, run, NeverBadState}
 
 -- the sum of a channel's values is one point
@@ -33,7 +33,7 @@ one-point : (n : ℕ) (xs : List Float) (ch : ℕ) → length xs ≡ n * 65 → 
 one-point n xs ch long ok h =
     let size : length (part xs ch) ≡ 65 = part_length xs ch (omega arith) in
     subst (λ (m : ℕ). UpTo ((0 + m) * 2 ^ 100) (sum (part xs ch))) size
-    (sum-up-to 0 (part xs ch) no-sum (part-every (within greatest_value) xs ch ok) (omega arith))
+    (sum-up-to 0 (part xs ch) no-sum (part-list_all (within greatest_value) xs ch ok) (omega arith))
 
 -- ---- a state
 
@@ -96,9 +96,9 @@ module _ (g : FullBandSettings) (passed : settings_refusal g ≡ accepted) where
       (λ e. kept)
   answer-kept s reset kept = cond_has (Kept g) (eqb (state_refusal s) accepted) (λ e. rw kept.settings started-kept) (λ e. kept)
 
-  pub run-kept : (calls : List Call) → Kept g (run (start_answer g).state calls)
-  unfolding run start_answer
-  run-kept calls = run-keeps (Kept g) (λ s c. (answer s c).state) answer-kept calls _ (rw passed started-kept)
+  pub run-kept : {start : FullBandErleEstimator} → start ≡ started g → (calls : List Call) → Kept g (run start calls)
+  unfolding run
+  run-kept same calls = run-keeps (Kept g) (λ s c. (answer s c).state) answer-kept calls _ (rw same started-kept)
 
 -- ---- never refused under 20
 
@@ -106,7 +106,7 @@ pub state-ok : (g : FullBandSettings) (s : FullBandErleEstimator) → settings_r
 unfolding state_ok
 state-ok g s passed kept =
     rw (kept.settings, passed)
-    (every_first channel_ok g.num_capture_channels s.channels no_channel
+    (list_all_first channel_ok g.num_capture_channels s.channels no_channel
     (λ ch h. channel-ok (channel_at s ch) (kept.channels ch h)))
 
 answer-not-20 : (s : FullBandErleEstimator) (c : Call) → state_ok s ≡ true → (answer s c).refused ≡ bad_state → ⊥
@@ -115,9 +115,9 @@ answer-not-20 s (update channels converged render capture residual) ok e =
     update-not-20 s.settings.num_capture_channels channels converged render capture residual (rw ok at e)
 answer-not-20 s reset ok e = let never : ◌≡◌ {A = ℕ} 0 20 = rw ok at e in omega arith
 
-pub never-bad-state : (g : FullBandSettings) → (start_answer g).refused ≡ accepted → NeverBadState (start_answer g).state
-unfolding NeverBadState start_answer state_refusal
-never-bad-state g e calls =
-    let s = run (start_answer g).state calls in
-    let ok = state-ok g s e (run-kept g e calls) in
+pub never-bad-state : (g : FullBandSettings) {start : FullBandErleEstimator} → start ≡ started g → settings_refusal g ≡ accepted → NeverBadState start
+unfolding NeverBadState state_refusal
+never-bad-state g same passed calls =
+    let s = run _ calls in
+    let ok = state-ok g s passed (run-kept g passed same calls) in
     record { calls = λ next. answer-not-20 s next ok; readings = rw ok }

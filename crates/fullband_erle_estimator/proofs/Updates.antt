@@ -7,11 +7,11 @@ use borrow.Author.Tests.{not-true}
 use lib.Ieee.{Float, lt}
 use lib.ListN.{length, get_or, set}
 use Rattle.aec3_common.specs.Binary32.{sum_threshold}
-use Rattle.aec3_common.specs.Lists.{every}
+use Rattle.std.specs.List.{list_all}
 use Rattle.aec3_common.specs.Spectra.{part, sum}
 use Rattle.aec3_common.proofs.Calls.{UpdateOk}
 use Rattle.aec3_common.proofs.Choices.{and_comm}
-use Rattle.aec3_common.proofs.Every.{every-at}
+use Rattle.aec3_common.proofs.Every.{list_all-at}
 use Rattle.aec3_common.proofs.Tables.{Stored, stored_more, stored-firsts}
 use Rattle.fullband_channel.specs.declared.channel.FullBandChannel.{FullBandChannel}
 use Rattle.fullband_channel.specs.Channel.{with_point, one_block_less, channel_after}
@@ -30,12 +30,12 @@ module _ (s : FullBandErleEstimator) (converged : List Bool) (x y e : List Float
 
   heard-is : (ch : ℕ) → ch < length converged → heard ch ≡ get_or converged ch false && lt sum_threshold (sum x)
   unfolding loud_for
-  heard-is ch h = go (every not converged) refl
+  heard-is ch h = go (list_all not converged) refl
     where
       go :
-          (none : Bool) → every not converged ≡ none
+          (none : Bool) → list_all not converged ≡ none
           → cond none false (lt sum_threshold (sum x)) && get_or converged ch false ≡ get_or converged ch false && lt sum_threshold (sum x)
-      go true e = let off = not-true (get_or converged ch false) (every-at not converged false ch e h) in rw off
+      go true e = let off = not-true (get_or converged ch false) (list_all-at not converged false ch e h) in rw off
       go false e = and_comm (lt sum_threshold (sum x)) (get_or converged ch false)
 
   pub heard-channel :

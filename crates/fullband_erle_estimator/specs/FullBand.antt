@@ -1,23 +1,37 @@
 -- The fullband estimator: start, update and reset, its figures and qualities, and the calls that are turned away.
-use Rattle.std.specs.Prelude.{Bool, false, cond, ◌&&◌, List, [], ◌∷◌, ℕ, ltb, eqb, pos, Float, get_or, take}
+use Rattle.std.specs.Prelude.{Bool, false, cond, ◌&&◌, List, [], ◌∷◌, ℕ, ltb, eqb, pos, Float, Result, Ok, Err, fold, get_or, take}
 use Rattle.std.specs.Float.{nan, binary32}
 use Rattle.std.specs.Float.Ieee.{of_bits, mul}
-use Rattle.aec3_common.specs.Binary32.{zero32, smaller}
+use Rattle.aec3_common.specs.declared.settings.ErleSettings.{ErleSettings}
+use Rattle.aec3_common.specs.Answers.{Answered, answer_case}
+use Rattle.aec3_common.specs.Binary32.{smaller}
 use Rattle.aec3_common.specs.Calls.{call_refusal}
-use Rattle.aec3_common.specs.Lists.{tab, every}
+use Rattle.std.specs.List.{list_all}
+use Rattle.aec3_common.specs.Lists.{tab}
 use Rattle.aec3_common.specs.Refusal.{unless, accepted, bad_state}
 use Rattle.aec3_common.specs.Settings.{max_capture_channels, limits_and_channels_refusal}
 use Rattle.aec3_common.specs.Spectra.{part}
+use Rattle.fullband_channel.specs.declared.instantaneous.OptionalNumber.{OptionalNumber}
 use Rattle.fullband_channel.specs.declared.instantaneous.OptionalNumber.TheVariants.{Absent}
 use Rattle.fullband_channel.specs.declared.channel.FullBandChannel.{FullBandChannel}
-use Rattle.fullband_channel.specs.Instantaneous.{log2_above, quality_of}
+use Rattle.fullband_channel.specs.Instantaneous.{optional_values, log2_above, quality_of}
 use Rattle.fullband_channel.specs.Channel.{channel_ok, fresh_channel, channel_after}
 use Rattle.fullband_erle_estimator.specs.declared.settings.FullBandSettings.{FullBandSettings}
 use Rattle.fullband_erle_estimator.specs.declared.FullBandErleEstimator.{FullBandErleEstimator}
-use Rattle.fullband_erle_estimator.specs.declared.FullBandAnswer.{FullBandAnswer}
-use Rattle.fullband_erle_estimator.specs.declared.FullBandFigure.{FullBandFigure}
-use Rattle.fullband_erle_estimator.specs.declared.FullBandFigure.TheVariants.{Value, Refused}
-use Rattle.fullband_erle_estimator.specs.declared.QualityAnswer.{QualityAnswer}
+
+-- ---- settings
+
+-- the share of the whole estimator's settings
+abbrev pub fullband_settings : ErleSettings → FullBandSettings
+fullband_settings g =
+    record {
+      min = g.min;
+      max_l = g.max_l;
+      max_h = g.max_h;
+      clamp_quality_estimate_to_zero = g.clamp_quality_estimate_to_zero;
+      clamp_quality_estimate_to_one = g.clamp_quality_estimate_to_one;
+      num_capture_channels = g.num_capture_channels;
+    }
 
 -- ---- calls turned away
 
@@ -29,7 +43,7 @@ settings_refusal s = limits_and_channels_refusal s.min s.max_l s.max_h s.num_cap
 unfoldable pub state_ok : FullBandErleEstimator → Bool
 state_ok s =
     eqb (settings_refusal s.settings) accepted
-    && every channel_ok (take s.settings.num_capture_channels s.channels)
+    && list_all channel_ok (take s.settings.num_capture_channels s.channels)
 
 -- a reset and the readers are turned away under 20 alone
 unfoldable pub state_refusal : FullBandErleEstimator → ℕ
@@ -50,25 +64,11 @@ min_log2 s = log2_above s.min
 unfoldable pub started : FullBandSettings → FullBandErleEstimator
 started s = record { settings = s; channels = tab max_capture_channels (λ ch. fresh_channel (min_log2 s)) }
 
--- what a refused start answers with: settings that number 20 turns away
-unfoldable pub refused_settings : FullBandSettings
-refused_settings =
-    record {
-      min = zero32;
-      max_l = zero32;
-      max_h = zero32;
-      clamp_quality_estimate_to_zero = false;
-      clamp_quality_estimate_to_one = false;
-      num_capture_channels = 0;
-    }
-
-unfoldable pub start_answer : FullBandSettings → FullBandAnswer
-start_answer s =
-    let n = settings_refusal s in
-    record { state = started (cond (eqb n accepted) s refused_settings); refused = n }
+unfoldable pub start_answer : FullBandSettings → Result FullBandErleEstimator ℕ
+start_answer s = answer_case (settings_refusal s) (started s)
 
 -- a reset leaves what a start with the state's settings gives
-unfoldable pub reset_answer : FullBandErleEstimator → FullBandAnswer
+unfoldable pub reset_answer : FullBandErleEstimator → Answered FullBandErleEstimator
 reset_answer s =
     let n = state_refusal s in
     record { state = cond (eqb n accepted) (started s.settings) s; refused = n }
@@ -108,7 +108,7 @@ updated s converged render capture residual =
     }
 
 -- The answer: the next state and 0, or the state as it was and the refusal.
-unfoldable pub update_answer : FullBandErleEstimator → ℕ → List Bool → List Float → List Float → List Float → FullBandAnswer
+unfoldable pub update_answer : FullBandErleEstimator → ℕ → List Bool → List Float → List Float → List Float → Answered FullBandErleEstimator
 update_answer s channels converged render capture residual =
     let n = update_refusal s channels converged render capture residual in
     record { state = cond (eqb n accepted) (updated s converged render capture residual) s; refused = n }
@@ -116,9 +116,8 @@ update_answer s channels converged render capture residual =
 -- ---- figures
 
 -- the least of a number and the figures of channels; an earlier one stays unless a later one is below it
-unfoldable pub least_from : Float → List FullBandChannel → Float
-least_from x [] = x
-least_from x (c ∷ cs) = least_from (smaller x c.erle_time_domain_log2) cs
+abbrev pub least_from : Float → List FullBandChannel → Float
+least_from x cs = fold (λ least c. smaller least c.erle_time_domain_log2) x cs
 
 -- the least figure of channels, or what stands for it where there is none
 unfoldable pub least_or : Float → List FullBandChannel → Float
@@ -138,36 +137,31 @@ decibel_factor = of_bits binary32 0x4040_0000
 unfoldable pub decibels : Float → Float
 decibels log2 = mul binary32 decibel_factor log2
 
--- the case of a figure's answer: number 0 has the figure, any other number is a refusal
-abbrev pub figure_case : ℕ → Float → FullBandFigure
-figure_case number figure = cond (eqb number accepted) (Value figure) (Refused number)
+unfoldable pub log2_answer : FullBandErleEstimator → Result Float ℕ
+log2_answer s = answer_case (state_refusal s) (fullband_log2 s)
 
-unfoldable pub log2_answer : FullBandErleEstimator → FullBandFigure
-log2_answer s = figure_case (state_refusal s) (fullband_log2 s)
-
-unfoldable pub decibel_answer : FullBandErleEstimator → FullBandFigure
-decibel_answer s = figure_case (state_refusal s) (decibels (fullband_log2 s))
-
--- and back: the number and the values of each case
-abbrev pub figure_number : FullBandFigure → ℕ
-figure_number (Value x) = accepted
-figure_number (Refused n) = n
-
-abbrev pub figure_values : FullBandFigure → List Float
-figure_values (Value x) = x ∷ []
-figure_values (Refused n) = []
+unfoldable pub decibel_answer : FullBandErleEstimator → Result Float ℕ
+decibel_answer s = answer_case (state_refusal s) (decibels (fullband_log2 s))
 
 -- ---- qualities
 
--- The quality of a channel's linear filter, absent too where the state has no such channel or is turned away.
-unfoldable pub quality_answer : FullBandErleEstimator → ℕ → QualityAnswer
+-- The quality of a channel's linear filter, absent too where the state has no such channel.
+unfoldable pub quality_answer : FullBandErleEstimator → ℕ → Result OptionalNumber ℕ
 quality_answer s ch =
-    let n = state_refusal s in
     let g = s.settings in
-    record {
-      quality =
-          cond (eqb n accepted && ltb ch g.num_capture_channels)
-          (quality_of g.clamp_quality_estimate_to_zero g.clamp_quality_estimate_to_one (channel_at s ch).instantaneous_erle)
-          Absent;
-      refused = n;
-    }
+    answer_case (state_refusal s)
+    (cond (ltb ch g.num_capture_channels)
+    (quality_of g.clamp_quality_estimate_to_zero g.clamp_quality_estimate_to_one (channel_at s ch).instantaneous_erle)
+    Absent)
+
+-- ---- answers read back
+
+-- the value of an answer's case, beside its number
+abbrev pub answer_values : {A : Type 0} → Result A ℕ → List A
+answer_values (Ok value) = value ∷ []
+answer_values (Err number) = []
+
+-- the number of a quality that is answered, where one is present
+abbrev pub quality_values : Result OptionalNumber ℕ → List Float
+quality_values (Ok quality) = optional_values quality
+quality_values (Err number) = []

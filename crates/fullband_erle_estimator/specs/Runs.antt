@@ -2,20 +2,19 @@
 -- extremes and qualities are numbers.
 use Rattle.std.specs.Prelude.{◌≡◌, true, List, ℕ, ◌<◌, Float}
 use Rattle.std.specs.Float.Ieee.{le}
+use Rattle.aec3_common.specs.Answers.{Answered}
 use Rattle.aec3_common.specs.Binary32.{zero32, one32, is_finite, number_from}
 use Rattle.aec3_common.specs.Calls.{Call, update, reset, run_by}
-use Rattle.aec3_common.specs.Lists.{every}
+use Rattle.std.specs.List.{list_all}
 use Rattle.aec3_common.specs.Refusal.{accepted, bad_state}
-use Rattle.fullband_channel.specs.Instantaneous.{optional_values}
 use Rattle.fullband_erle_estimator.specs.declared.settings.FullBandSettings.{FullBandSettings}
 use Rattle.fullband_erle_estimator.specs.declared.FullBandErleEstimator.{FullBandErleEstimator}
-use Rattle.fullband_erle_estimator.specs.declared.FullBandAnswer.{FullBandAnswer}
-use Rattle.fullband_erle_estimator.specs.FullBand.{state_refusal, min_log2, reset_answer, update_answer, channel_at, fullband_log2, decibels, quality_answer}
+use Rattle.fullband_erle_estimator.specs.FullBand.{state_refusal, min_log2, reset_answer, update_answer, channel_at, fullband_log2, decibels, quality_answer, quality_values}
 
 -- ---- lists of calls
 
 -- what an update or a reset is answered with
-unfoldable pub answer : FullBandErleEstimator → Call → FullBandAnswer
+unfoldable pub answer : FullBandErleEstimator → Call → Answered FullBandErleEstimator
 answer s (update channels converged render capture residual) = update_answer s channels converged render capture residual
 answer s reset = reset_answer s
 
@@ -54,7 +53,7 @@ FiguresNotBelowMinimum settings start = (calls : List Call) → NotBelowMinimum 
 
 -- the quality that a channel is answered, where it is present
 abbrev pub quality_of_channel : FullBandErleEstimator → ℕ → List Float
-quality_of_channel s ch = optional_values (quality_answer s ch).quality
+quality_of_channel s ch = quality_values (quality_answer s ch)
 
 -- A channel's figure and its two extremes are numbers, neither a NaN nor an infinity, and so is its quality where that is present. With
 -- both clamps on it lies in 0 to 1.
@@ -62,10 +61,10 @@ pub record ChannelNumbers (settings : FullBandSettings) (s : FullBandErleEstimat
   pub figure : is_finite (figure_of s ch) ≡ true
   pub greatest : is_finite (channel_at s ch).instantaneous_erle.max_erle_log2 ≡ true
   pub least : is_finite (channel_at s ch).instantaneous_erle.min_erle_log2 ≡ true
-  pub quality : every is_finite (quality_of_channel s ch) ≡ true
+  pub quality : list_all is_finite (quality_of_channel s ch) ≡ true
   pub clamped :
       settings.clamp_quality_estimate_to_zero ≡ true → settings.clamp_quality_estimate_to_one ≡ true
-      → every (number_from zero32 one32) (quality_of_channel s ch) ≡ true
+      → list_all (number_from zero32 one32) (quality_of_channel s ch) ≡ true
 
 -- and so are the fullband figure and its decibels
 pub record AreNumbers (settings : FullBandSettings) (s : FullBandErleEstimator) : Type 0 where

@@ -1,12 +1,14 @@
 // The settings of the estimator, and what turns them away.
 ghost use Rattle.std.specs.Prelude.{◌≡◌};
-ghost use Rattle.fullband_erle_estimator.specs.FullBand.{settings_refusal, refused_settings, min_log2};
+ghost use Rattle.aec3_common.specs.Answers.{number_of};
+ghost use Rattle.fullband_erle_estimator.specs.FullBand.{settings_refusal, fullband_settings, min_log2};
 
 use aec3_common::log2::approx_log2;
-use aec3_common::settings::limits_and_channels_refusal;
-use fullband_channel::instantaneous::EPSILON;
+use aec3_common::settings::judge_limits_and_channels;
+use aec3_common::{ErleLimits, ErleSettings, Refusal};
+use fullband_channel::instantaneous::{EPSILON, QualityClamps};
 
-#[derive(Clone, Copy)]
+#[derive(Clone, Copy, Debug)]
 pub struct FullBandSettings {
     pub min: f32,
     pub max_l: f32,
@@ -16,28 +18,48 @@ pub struct FullBandSettings {
     pub num_capture_channels: usize,
 }
 
-// What a refused start answers with: number 20 turns it away.
-#[tactic(auto, unfolding(crate::specs::FullBand::refused_settings))]
-pub fn refused_settings() -> FullBandSettings
-    ensures { result ≡ refused_settings }
-{
-    FullBandSettings {
-        min: 0.0,
-        max_l: 0.0,
-        max_h: 0.0,
-        clamp_quality_estimate_to_zero: false,
-        clamp_quality_estimate_to_one: false,
-        num_capture_channels: 0,
+// The share of the whole estimator's settings.
+impl From<ErleSettings> for FullBandSettings {
+    ghost from_gives = { λ settings share. share ≡ fullband_settings settings };
+
+    fn from(settings: ErleSettings) -> FullBandSettings {
+        FullBandSettings {
+            min: settings.min,
+            max_l: settings.max_l,
+            max_h: settings.max_h,
+            clamp_quality_estimate_to_zero: settings.clamp_quality_estimate_to_zero,
+            clamp_quality_estimate_to_one: settings.clamp_quality_estimate_to_one,
+            num_capture_channels: settings.num_capture_channels,
+        }
     }
 }
 
 impl FullBandSettings {
-    // The first of 1 and 2 that the settings break, or 0.
-    #[tactic(auto, unfolding(crate::specs::FullBand::settings_refusal))]
-    pub fn refusal(self) -> u32
-        ensures { result ≡ settings_refusal self }
+    pub fn limits(self) -> ErleLimits
+        ensures { result ≡ (record { min = self.min; max_l = self.max_l; max_h = self.max_h }) }
     {
-        limits_and_channels_refusal(self.min, self.max_l, self.max_h, self.num_capture_channels)
+        ErleLimits {
+            min: self.min,
+            max_l: self.max_l,
+            max_h: self.max_h,
+        }
+    }
+
+    pub fn quality_clamps(self) -> QualityClamps
+        ensures { result ≡ (record { to_zero = self.clamp_quality_estimate_to_zero; to_one = self.clamp_quality_estimate_to_one }) }
+    {
+        QualityClamps {
+            to_zero: self.clamp_quality_estimate_to_zero,
+            to_one: self.clamp_quality_estimate_to_one,
+        }
+    }
+
+    // The first of 1 and 2 that the settings break.
+    #[tactic(auto, unfolding(crate::specs::FullBand::settings_refusal))]
+    pub fn judge(self) -> Result<(), Refusal>
+        ensures { number_of result ≡ settings_refusal self }
+    {
+        judge_limits_and_channels(self.limits(), self.num_capture_channels)
     }
 
     // Log2 of (the minimum plus 0.001).

@@ -3,52 +3,57 @@
 // holds inside. It ends on every input, at a malformed record with the line `bad`.
 #![tactic(auto)]
 
-mod kinds;
-
-use kinds::{Sort, sort_of};
-use replay_erl::{no_erl, replay_erl};
-use replay_erle::{no_erle, replay_erle};
+use erle_state::ErleState;
+use replay_erl::ReplayedErl;
+use replay_erle::ReplayedErle;
 use replay_leaves::replay_leaf;
-use replay_signal::{no_signal, replay_signal};
-use script::{flushed, next_record, record_buffer, record_in, text_buffer, write_bad, write_out};
-use std::io::{Read, Write};
+use replay_signal::ReplayedSignal;
+use script::{Fault, Fields, replay, replay_script};
+use std::alloc::{AllocError, Global};
 use std::rt::Env;
 
-// One estimator of each sort stands from one record to the next. Nothing says that the input ends, so the loop counts its
-// turns down from a number that no run uses up.
-fn run<R: Read, W: Write>(
-    reader: &mut R,
-    writer: &mut W,
-    buffer: &mut [u8],
-    out: &mut [u8],
+// One estimator of each sort stands from one record to the next.
+#[derive(Clone, Copy)]
+struct Standing {
+    erl: Option<ReplayedErl>,
+    erle: Option<ReplayedErle>,
+    signal: Option<ReplayedSignal>,
     shows_state: bool,
-) {
-    let mut erl = no_erl();
-    let mut erle = no_erle();
-    let mut signal = no_signal();
-    let mut at = 0;
-    let mut turns = u64::MAX;
-    while turns > 0 {
-        turns -= 1;
-        at = flushed(writer, out, at);
-        let next = next_record(reader, buffer);
-        let record = record_in(buffer, next);
-        match sort_of(next, record) {
-            Sort::Leaf => at = replay_leaf(record, out, at),
-            Sort::Erl => erl = replay_erl(erl, record, out, &mut at),
-            Sort::Erle => erle = replay_erle(erle, record, shows_state, out, &mut at),
-            Sort::Signal => signal = replay_signal(signal, record, out, &mut at),
-            Sort::Malformed => {
-                write_bad(writer, out, at);
-                return;
-            }
-            Sort::End => {
-                write_out(writer, out, at);
-                return;
-            }
+}
+
+impl Standing {
+    fn replay_erle(
+        &mut self,
+        alloc: Global,
+        kind: u16,
+        fields: Fields,
+        text: &mut String,
+    ) -> Result<(), Fault> {
+        replay(alloc, &mut self.erle, kind, fields, text)?;
+        if self.shows_state
+            && let Some(ReplayedErle(erle)) = &self.erle
+        {
+            write!(text, "{}", ErleState(erle))?;
+        }
+        Ok(())
+    }
+
+    // The digits of a kind before the last tell the sorts apart, the last one the calls of a sort.
+    fn replay(
+        &mut self,
+        alloc: Global,
+        kind: u16,
+        fields: Fields,
+        text: &mut String,
+    ) -> Result<(), Fault> {
+        match kind / 16 {
+            0x010 => replay_leaf(kind, fields, text),
+            0x011 => replay(alloc, &mut self.erl, kind, fields, text),
+            0x012 => self.replay_erle(alloc, kind, fields, text),
+            0x014 => replay(alloc, &mut self.signal, kind, fields, text),
+            _ => Err(Fault::Malformed),
         }
     }
-    write_out(writer, out, at);
 }
 
 // Whether the inner state is asked for. A longer word finds no room and counts as none.
@@ -60,15 +65,18 @@ fn state_asked<E: Env>(rt: &E) -> bool {
     }
 }
 
-fn main(rt: HostRuntime) {
-    let mut buffer = record_buffer();
-    let mut out = text_buffer();
-    let shows_state = state_asked(&rt);
-    run(
+fn main(rt: HostRuntime) -> Result<(), AllocError> {
+    let alloc = rt.alloc();
+    let mut standing = Standing {
+        erl: None,
+        erle: None,
+        signal: None,
+        shows_state: state_asked(&rt),
+    };
+    replay_script(
+        alloc,
         &mut rt.stdin(),
         &mut rt.stdout(),
-        &mut buffer,
-        &mut out,
-        shows_state,
-    );
+        |kind: u16, fields: Fields, text: &mut String| standing.replay(alloc, kind, fields, text),
+    )
 }

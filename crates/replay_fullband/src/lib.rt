@@ -1,133 +1,86 @@
-// Kinds 0150 to 0153: the fullband estimator. None stands before the first start and after one that was refused: such a start
-// answers a state without channels.
+// Kinds 0150 to 0153: the fullband estimator.
 #![tactic(auto)]
 
-mod figures;
+use aec3_common::Refusal;
+use channel_lines::{FullReadings, FullbandState};
+use fullband_erle_estimator::{FullBandErleEstimator, FullBandSettings};
+use script::{Call, Fault, Fields, Malformed, Replayed};
+use std::alloc::Global;
+use std::fmt;
+use update_bodies::BlockLists;
 
-use encoding::{float_of, half_at, word_at};
-use figures::put_figures;
-use fullband_erle_estimator::{FullBandAnswer, FullBandErleEstimator, FullBandSettings};
-use script::{Call, MOST_FLAGS, MOST_FLOATS, flags_in, floats_in, put_call_line};
-use update_bodies::part::{LISTS, body_of, counts_of, places_of, times_of, update_ok};
+#[derive(Clone, Copy)]
+pub struct ReplayedFullband(FullBandErleEstimator);
 
-fn call_of(record: &[u8]) -> Call {
-    match half_at(record, 0) {
-        0x0150 => Call::Start,
-        0x0151 | 0x0153 => Call::Update,
-        0x0152 => Call::Reset,
-        _ => Call::Unknown,
+impl Replayed for ReplayedFullband {
+    type Settings = FullBandSettings;
+
+    type Update = BlockLists;
+
+    type Change = ();
+
+    const NAME: &'static str = "fullband";
+
+    fn call_of(kind: u16) -> Option<Call> {
+        match kind {
+            0x0150 => Some(Call::Start),
+            0x0151 => Some(Call::Update),
+            0x0152 => Some(Call::Reset),
+            0x0153 => Some(Call::Repeat),
+            _ => None,
+        }
+    }
+
+    fn settings_in(fields: &mut Fields) -> Result<FullBandSettings, Malformed> {
+        Ok(FullBandSettings {
+            min: fields.float()?,
+            max_l: fields.float()?,
+            max_h: fields.float()?,
+            clamp_quality_estimate_to_zero: fields.flag()?,
+            clamp_quality_estimate_to_one: fields.flag()?,
+            num_capture_channels: fields.count()?,
+        })
+    }
+
+    fn update_in(alloc: Global, fields: &mut Fields) -> Result<BlockLists, Fault> {
+        BlockLists::read(alloc, fields)
+    }
+
+    fn change_in(_fields: &mut Fields) -> Result<(), Malformed> {
+        Ok(())
+    }
+
+    fn start(settings: FullBandSettings) -> Result<Self, Refusal> {
+        FullBandErleEstimator::new(settings).map(ReplayedFullband)
+    }
+
+    fn update(&mut self, update: &BlockLists) -> Result<(), Refusal> {
+        let answer = self.0.update(&update.block());
+        self.0 = answer.state;
+        answer.outcome
+    }
+
+    fn reset(&mut self, _change: ()) -> Result<(), Refusal> {
+        let answer = self.0.reset();
+        self.0 = answer.state;
+        answer.outcome
     }
 }
 
-// The settings of a start: minimum, maximum of the lower and of the upper bands, the flags of the two quality clamps, capture
-// channels.
-fn settings_of(record: &[u8]) -> FullBandSettings {
-    FullBandSettings {
-        min: float_of(word_at(record, 2)),
-        max_l: float_of(word_at(record, 6)),
-        max_h: float_of(word_at(record, 10)),
-        clamp_quality_estimate_to_zero: word_at(record, 14) == 1,
-        clamp_quality_estimate_to_one: word_at(record, 18) == 1,
-        num_capture_channels: word_at(record, 22) as usize,
+// What the estimator answers over all its channels, and a line for each. Records that the state does not use are not shown.
+impl fmt::Display for ReplayedFullband {
+    fn fmt<W: fmt::Write>(&self, f: &mut fmt::Formatter<W>) -> fmt::Result {
+        let num_channels = self.0.settings.num_capture_channels;
+        let readings = FullReadings {
+            num_channels,
+            log2: self.0.fullband_erle_log2(),
+            db: self.0.fullband_erle_db(),
+            qualities: [0, 1, 2, 3].map(|c| self.0.linear_quality_estimate(c)),
+        };
+        write!(f, "{readings}")?;
+        for (index, channel) in self.0.channels.iter().take(num_channels).enumerate() {
+            write!(f, "{}", FullbandState { index, channel })?;
+        }
+        Ok(())
     }
-}
-
-// What stands before the first record: none, as a start whose fields are all 0 is refused.
-pub fn no_fullband() -> FullBandErleEstimator {
-    let record = [0; 26];
-    let answer = FullBandErleEstimator::new(settings_of(&record));
-    answer.state
-}
-
-// Whether a record is a well-formed call. A reset has no body.
-pub fn fullband_ok(record: &[u8]) -> bool {
-    match call_of(record) {
-        Call::Start => (record.len() == 26)
-            & (word_at(record, 14) <= 1)
-            & (word_at(record, 18) <= 1),
-        Call::Update => update_ok(record),
-        Call::Reset => record.len() == 2,
-        Call::Unknown => false,
-    }
-}
-
-// The same update so many times, each on the state that the last one left, and the answer of the last. Callers ask for
-// one at least.
-fn updated(
-    estimator: FullBandErleEstimator,
-    times: u32,
-    channels: usize,
-    converged: &[bool],
-    x2: &[f32],
-    y2: &[f32],
-    e2: &[f32],
-) -> FullBandAnswer {
-    let mut answer = FullBandAnswer {
-        state: estimator,
-        refused: 0,
-    };
-    for _ in 0..times {
-        let state = answer.state;
-        answer = state.update(channels, converged, x2, y2, e2);
-    }
-    answer
-}
-
-// Updates with the lists of a record, each as long as the record says.
-fn updated_with(estimator: FullBandErleEstimator, record: &[u8]) -> FullBandAnswer {
-    let body = body_of(record);
-    let counts = counts_of(body);
-    let places = places_of(counts);
-    let mut flags = [false; MOST_FLAGS];
-    let mut x2 = [0.0; MOST_FLOATS];
-    let mut y2 = [0.0; MOST_FLOATS];
-    let mut e2 = [0.0; MOST_FLOATS];
-    updated(
-        estimator,
-        times_of(record),
-        counts.channels as usize,
-        flags_in(&mut flags, body, LISTS, counts.flags),
-        floats_in(&mut x2, body, places.x2, counts.x2),
-        floats_in(&mut y2, body, places.y2, counts.y2),
-        floats_in(&mut e2, body, places.e2, counts.e2),
-    )
-}
-
-// What a call answers.
-fn answer_to(estimator: FullBandErleEstimator, record: &[u8]) -> FullBandAnswer {
-    match call_of(record) {
-        Call::Start => FullBandErleEstimator::new(settings_of(record)),
-        Call::Update => updated_with(estimator, record),
-        _ => estimator.reset(),
-    }
-}
-
-fn stands(estimator: FullBandErleEstimator) -> bool {
-    let settings = estimator.settings;
-    settings.num_capture_channels != 0
-}
-
-// The line of a call, and the figures if an estimator stands.
-fn put_lines(out: &mut [u8], at: usize, call: Call, answer: FullBandAnswer) -> usize {
-    let estimator = answer.state;
-    let stands = stands(estimator);
-    let at = put_call_line(out, at, b"fullband", call, answer.refused, stands);
-    if stands {
-        put_figures(out, at, estimator)
-    } else {
-        at
-    }
-}
-
-// Replays a well-formed record: writes its lines from a place on, moves the place behind them, and gives what stands from
-// here on. An update or a reset of no estimator is refused under 20, and leaves none.
-pub fn replay_fullband(
-    estimator: FullBandErleEstimator,
-    record: &[u8],
-    out: &mut [u8],
-    at: &mut usize,
-) -> FullBandErleEstimator {
-    let answer = answer_to(estimator, record);
-    *at = put_lines(out, *at, call_of(record), answer);
-    answer.state
 }

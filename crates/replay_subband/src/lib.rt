@@ -1,124 +1,88 @@
-// Kinds 0130 to 0133: the subband estimator. None stands before the first start and after one that was refused: such a start
-// answers a state without channels.
+// Kinds 0130 to 0133: the subband estimator.
 #![tactic(auto)]
 
-mod figures;
+use aec3_common::Refusal;
+use channel_lines::SubbandState;
+use script::{Call, Fault, Fields, Figures, Malformed, Replayed};
+use std::alloc::Global;
+use std::fmt;
+use subband_erle_estimator::{SubbandErleEstimator, SubbandSettings, erle};
+use update_bodies::BlockLists;
 
-use encoding::{float_of, half_at, word_at};
-use figures::put_figures;
-use script::{Call, MOST_FLAGS, MOST_FLOATS, flags_in, floats_in, put_call_line};
-use subband_erle_estimator::{SubbandAnswer, SubbandErleEstimator, SubbandSettings};
-use update_bodies::part::{LISTS, body_of, counts_of, places_of, times_of, update_ok};
+#[derive(Clone, Copy)]
+pub struct ReplayedSubband(SubbandErleEstimator);
 
-fn call_of(record: &[u8]) -> Call {
-    match half_at(record, 0) {
-        0x0130 => Call::Start,
-        0x0131 | 0x0133 => Call::Update,
-        0x0132 => Call::Reset,
-        _ => Call::Unknown,
+impl Replayed for ReplayedSubband {
+    type Settings = SubbandSettings;
+
+    type Update = BlockLists;
+
+    type Change = ();
+
+    const NAME: &'static str = "subband";
+
+    fn call_of(kind: u16) -> Option<Call> {
+        match kind {
+            0x0130 => Some(Call::Start),
+            0x0131 => Some(Call::Update),
+            0x0132 => Some(Call::Reset),
+            0x0133 => Some(Call::Repeat),
+            _ => None,
+        }
+    }
+
+    fn settings_in(fields: &mut Fields) -> Result<SubbandSettings, Malformed> {
+        Ok(SubbandSettings {
+            min: fields.float()?,
+            max_l: fields.float()?,
+            max_h: fields.float()?,
+            onset_detection: fields.flag()?,
+            num_capture_channels: fields.count()?,
+        })
+    }
+
+    fn update_in(alloc: Global, fields: &mut Fields) -> Result<BlockLists, Fault> {
+        BlockLists::read(alloc, fields)
+    }
+
+    fn change_in(_fields: &mut Fields) -> Result<(), Malformed> {
+        Ok(())
+    }
+
+    fn start(settings: SubbandSettings) -> Result<Self, Refusal> {
+        SubbandErleEstimator::new(settings).map(ReplayedSubband)
+    }
+
+    fn update(&mut self, update: &BlockLists) -> Result<(), Refusal> {
+        let answer = self.0.update(&update.block());
+        self.0 = answer.state;
+        answer.outcome
+    }
+
+    fn reset(&mut self, _change: ()) -> Result<(), Refusal> {
+        let answer = self.0.reset();
+        self.0 = answer.state;
+        answer.outcome
     }
 }
 
-// The settings of a start: minimum, maximum of the lower and of the upper bands, onset flag, capture channels.
-fn settings_of(record: &[u8]) -> SubbandSettings {
-    SubbandSettings {
-        min: float_of(word_at(record, 2)),
-        max_l: float_of(word_at(record, 6)),
-        max_h: float_of(word_at(record, 10)),
-        onset_detection: word_at(record, 14) == 1,
-        num_capture_channels: word_at(record, 18) as usize,
+// For each channel what the library shows of it, the compensated stream as it is held, and the inner state. Records that the
+// state does not use are not shown.
+impl fmt::Display for ReplayedSubband {
+    fn fmt<W: fmt::Write>(&self, f: &mut fmt::Formatter<W>) -> fmt::Result {
+        let settings = self.0.settings;
+        let shown = self.0.channels.iter().take(settings.num_capture_channels);
+        for (c, channel) in shown.enumerate() {
+            let plain = channel.erle.as_slice();
+            let held = channel.erle_onset_compensated.as_slice();
+            let compensated = erle(plain, held, true, settings.onset_detection);
+            writeln!(f, "plain {c}{}", Figures(plain))?;
+            writeln!(f, "comp {c}{}", Figures(compensated))?;
+            writeln!(f, "unb {c}{}", Figures(&channel.erle_unbounded))?;
+            writeln!(f, "onsets {c}{}", Figures(&channel.erle_onsets))?;
+            writeln!(f, "rawcomp {c}{}", Figures(held))?;
+            write!(f, "{}", SubbandState { index: c, channel })?;
+        }
+        Ok(())
     }
-}
-
-// What stands before the first record: none, as a start whose fields are all 0 is refused.
-pub fn no_subband() -> SubbandErleEstimator {
-    let record = [0; 22];
-    let answer = SubbandErleEstimator::new(settings_of(&record));
-    answer.state
-}
-
-// Whether a record is a well-formed call. A reset has no body.
-pub fn subband_ok(record: &[u8]) -> bool {
-    match call_of(record) {
-        Call::Start => (record.len() == 22) & (word_at(record, 14) <= 1),
-        Call::Update => update_ok(record),
-        Call::Reset => record.len() == 2,
-        Call::Unknown => false,
-    }
-}
-
-// The same update so many times, each on the state that the last one left, and the answer of the last. Callers ask for
-// one at least.
-fn updated(
-    estimator: SubbandErleEstimator,
-    times: u32,
-    channels: usize,
-    converged: &[bool],
-    x2: &[f32],
-    y2: &[f32],
-    e2: &[f32],
-) -> SubbandAnswer {
-    let mut answer = SubbandAnswer {
-        state: estimator,
-        refused: 0,
-    };
-    for _ in 0..times {
-        let state = answer.state;
-        answer = state.update(channels, converged, x2, y2, e2);
-    }
-    answer
-}
-
-// Updates with the lists of a record, each as long as the record says.
-fn updated_with(estimator: SubbandErleEstimator, record: &[u8]) -> SubbandAnswer {
-    let body = body_of(record);
-    let counts = counts_of(body);
-    let places = places_of(counts);
-    let mut flags = [false; MOST_FLAGS];
-    let mut x2 = [0.0; MOST_FLOATS];
-    let mut y2 = [0.0; MOST_FLOATS];
-    let mut e2 = [0.0; MOST_FLOATS];
-    updated(
-        estimator,
-        times_of(record),
-        counts.channels as usize,
-        flags_in(&mut flags, body, LISTS, counts.flags),
-        floats_in(&mut x2, body, places.x2, counts.x2),
-        floats_in(&mut y2, body, places.y2, counts.y2),
-        floats_in(&mut e2, body, places.e2, counts.e2),
-    )
-}
-
-// What a call answers.
-fn answer_to(estimator: SubbandErleEstimator, record: &[u8]) -> SubbandAnswer {
-    match call_of(record) {
-        Call::Start => SubbandErleEstimator::new(settings_of(record)),
-        Call::Update => updated_with(estimator, record),
-        _ => estimator.reset(),
-    }
-}
-
-fn stands(estimator: SubbandErleEstimator) -> bool {
-    let settings = estimator.settings;
-    settings.num_capture_channels != 0
-}
-
-// The line of a call, and the figures.
-fn put_lines(out: &mut [u8], at: usize, call: Call, answer: SubbandAnswer) -> usize {
-    let estimator = answer.state;
-    let at = put_call_line(out, at, b"subband", call, answer.refused, stands(estimator));
-    put_figures(out, at, estimator)
-}
-
-// Replays a well-formed record: writes its lines from a place on, moves the place behind them, and gives what stands from
-// here on. An update or a reset of no estimator is refused under 20, and leaves none.
-pub fn replay_subband(
-    estimator: SubbandErleEstimator,
-    record: &[u8],
-    out: &mut [u8],
-    at: &mut usize,
-) -> SubbandErleEstimator {
-    let answer = answer_to(estimator, record);
-    *at = put_lines(out, *at, call_of(record), answer);
-    answer.state
 }

@@ -1,19 +1,20 @@
-// What the programs that replay a script of library calls share: how records are read, how lists lie in a record, and
-// how lines are written. Of the public functions only `record_in` asks something of its caller: that the record lies in
-// the buffer.
+// What the programs that replay a script of library calls share: how a script's records are read and what lies in them, how the
+// calls to an estimator are replayed, and how their lines are written. No function asks anything of its caller but that a
+// closure or a bound that it is given may be called.
 #![tactic(auto)]
 
-pub mod answers;
+pub mod call;
+pub mod fault;
+pub mod fields;
 pub mod input;
 pub mod line;
-pub mod lists;
-pub mod output;
+pub mod replayed;
+pub mod run;
 
-pub use answers::{Call, put_array_line, put_band_line, put_call_line, put_head};
-pub use input::{Next, next_record, read_full, record_buffer, record_in};
-pub use line::{put_bands, put_count, put_field, put_figure, put_refused};
-pub use lists::{
-    MOST_BLOCK_FLOATS, MOST_FLAGS, MOST_FLOATS, bytes_of_floats, counts_in, flags_in, flags_ok,
-    floats_in, part_length, rest_from,
-};
-pub use output::{flushed, text_buffer, write_bad, write_out};
+pub use call::{Call, Reply};
+pub use fault::{Fault, Malformed};
+pub use fields::Fields;
+pub use input::{next_record, read_full};
+pub use line::{Bits, Digits, Figures, OrRefused, Row};
+pub use replayed::{Replayed, replay};
+pub use run::{replay_script, write_out};

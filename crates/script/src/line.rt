@@ -1,34 +1,66 @@
-// The fields of a line: text over a lent slice, from a place on. Each function gives the place after its text.
-use encoding::{bits_of, put_bytes, put_decimal, put_hex8};
+// The fields of a line, as they are shown.
+use aec3_common::Refusal;
+use encoding::bits_of;
+use std::fmt;
 
-// A count or a place in decimal. None that is printed has more than 32 bits.
-pub fn put_count(out: &mut [u8], at: usize, n: usize) -> usize {
-    put_decimal(out, at, (n % 0x1_0000_0000) as u32)
-}
+// A figure as its bits; of a NaN always the same.
+#[derive(Clone, Copy, Debug)]
+pub struct Bits(pub f32);
 
-// One more field of a line.
-pub fn put_field(out: &mut [u8], at: usize, n: usize) -> usize {
-    let at = put_bytes(out, at, b" ");
-    put_count(out, at, n)
-}
-
-// The number under which a call is turned away.
-pub fn put_refused(out: &mut [u8], at: usize, number: u32) -> usize {
-    let at = put_bytes(out, at, b"refused ");
-    put_decimal(out, at, number)
-}
-
-// One more field: the bits of a figure.
-pub fn put_figure(out: &mut [u8], at: usize, figure: f32) -> usize {
-    let at = put_bytes(out, at, b" ");
-    put_hex8(out, at, bits_of(figure))
-}
-
-// A field for each band's figure.
-pub fn put_bands(out: &mut [u8], at: usize, bands: &[f32]) -> usize {
-    let mut at = at;
-    for k in 0..bands.len() {
-        at = put_figure(out, at, bands[k]);
+impl fmt::Display for Bits {
+    fn fmt<W: fmt::Write>(&self, f: &mut fmt::Formatter<W>) -> fmt::Result {
+        write!(f, "{:08X}", bits_of(self.0))
     }
-    at
+}
+
+// A field for each of a list, with a space before it.
+#[derive(Clone, Copy, Debug)]
+pub struct Row<'a, T>(pub &'a [T]);
+
+impl<T: fmt::Display> fmt::Display for Row<'_, T> {
+    fn fmt<W: fmt::Write>(&self, f: &mut fmt::Formatter<W>) -> fmt::Result {
+        for field in self.0 {
+            write!(f, " {field}")?;
+        }
+        Ok(())
+    }
+}
+
+// The same for figures. It stays beside `Row`: a row of `Bits` would need a copy of the list.
+#[derive(Clone, Copy, Debug)]
+pub struct Figures<'a>(pub &'a [f32]);
+
+impl fmt::Display for Figures<'_> {
+    fn fmt<W: fmt::Write>(&self, f: &mut fmt::Formatter<W>) -> fmt::Result {
+        for &figure in self.0 {
+            write!(f, " {}", Bits(figure))?;
+        }
+        Ok(())
+    }
+}
+
+// One field with a digit for each flag.
+#[derive(Clone, Copy, Debug)]
+pub struct Digits<'a>(pub &'a [bool]);
+
+impl fmt::Display for Digits<'_> {
+    fn fmt<W: fmt::Write>(&self, f: &mut fmt::Formatter<W>) -> fmt::Result {
+        for &flag in self.0 {
+            write!(f, "{}", u8::from(flag))?;
+        }
+        Ok(())
+    }
+}
+
+// What a call answers, or the number under which it is turned away.
+#[derive(Clone, Copy, Debug)]
+pub struct OrRefused<T>(pub Result<T, Refusal>);
+
+impl<T: fmt::Display> fmt::Display for OrRefused<T> {
+    fn fmt<W: fmt::Write>(&self, f: &mut fmt::Formatter<W>) -> fmt::Result {
+        match &self.0 {
+            Ok(answer) => write!(f, "{answer}"),
+            Err(refusal) => write!(f, "refused {refusal}"),
+        }
+    }
 }

@@ -2,12 +2,13 @@
 use mathlib.Core.Path.{◌≡◌, refl, ap, ◌∙◌}
 use mathlib.Core.Bool.{cond}
 use mathlib.Core.List.{List, []}
-use Prim.Native.Nat.{ℕ, zero, suc, ◌+◌, ◌-◌, ◌*◌, ◌≤◌, ◌<◌}
+use Prim.Native.Nat.{ℕ, zero, suc, ◌+◌, ◌-◌, ◌*◌, ◌/◌, ◌≤◌, ◌<◌}
 use native.Mathlib.Omega.{arith}
 use borrow.Author.Tests.{lt-ltb}
 use lib.Dec.{ltb}
 use lib.Ieee.{Float, nan}
-use lib.ListN.{length, get_or, take, drop, set}
+use lib.ListN.{length, length-drop, get_or, take, drop, set}
+use Rattle.std.proofs.lemmas.List.{drop-drop}
 use Rattle.aec3_common.specs.Binary32.{zero32}
 use Rattle.aec3_common.specs.Lists.{tab}
 use Rattle.aec3_common.proofs.Choices.{cond-by}
@@ -17,7 +18,7 @@ use Rattle.section_echoes.specs.Echoes.{render_sum, fewer, section_begin, sectio
 use Rattle.section_echoes.specs.Packed.{total, responses_of}
 use Rattle.section_echoes.specs.Steps.{bands, first_sections, render_sums, sum_at, echo_sums, all_active}
 use Rattle.section_echoes.proofs.Channel.{active-sections-are}
-use Rattle.section_echoes.proofs.Packed.{total-more}
+use Rattle.section_echoes.proofs.Packed.{total-more, packed-end}
 
 -- no active section in any channel yet
 abbrev pub none_active : List (List ℕ)
@@ -52,49 +53,61 @@ module _ (ring : RenderRing) (spectra : List Float) (headroom : ℕ) (boundaries
   abbrev pub active_at : ℕ → List ℕ
   active_at ch = active_sections ring spectra headroom boundaries sections (get_or counts ch 0) (responses_of counts responses ch)
 
-  -- The loop is at a channel: it knows where the channel's responses begin and for how many responses its render sums were made, and
-  -- the channels before have their active sections.
-  pub record Going (r : List (List ℕ)) (render : List (List Float)) (made_for at ch : ℕ) : Type 0 where
-    pub begins : at ≡ total (take ch counts) * 65
+  -- The loop is at a channel: the responses that are left begin with the channel's, it is known for how many responses the render sums
+  -- were made, and the channels before have their active sections.
+  pub record Going (r : List (List ℕ)) (render : List (List Float)) (made_for : ℕ) (rest : List Float) (ch : ℕ) : Type 0 where
+    pub left : rest ≡ drop (total (take ch counts) * 65) responses
     pub sums : render ≡ render_sums ring spectra headroom boundaries sections made_for
     pub stored : Stored 4 [] 0 (length counts) active_at none_active r ch
 
-  pub going-begun : Going none_active no_render 0 0 0
+  pub going-begun : Going none_active no_render 0 responses 0
   unfolding total
   going-begun =
       record {
-        begins = refl;
+        left = refl;
         sums = no-render ring spectra headroom boundaries sections;
         stored = stored-none [] 0 (length counts) active_at none_active (omega arith) (length-tab 4 (λ ch. bands (λ k. 0)));
       }
 
 module _
     {ring : RenderRing} {spectra : List Float} {headroom : ℕ} {boundaries : List ℕ} {sections : ℕ} {counts : List ℕ} {responses : List Float}
-    {r : List (List ℕ)} {render : List (List Float)} {made_for at ch : ℕ}
-    (g : Going ring spectra headroom boundaries sections counts responses r render made_for at ch)
+    {r : List (List ℕ)} {render : List (List Float)} {made_for : ℕ} {rest : List Float} {ch : ℕ}
+    (g : Going ring spectra headroom boundaries sections counts responses r render made_for rest ch)
   where
     -- the part that is lent is the channel's
-    pub going-part : take (at + get_or counts ch 0 * 65 - at) (drop at responses) ≡ responses_of counts responses ch
+    pub going-part : take (get_or counts ch 0 * 65) rest ≡ responses_of counts responses ch
     unfolding responses_of
-    going-part =
-        let size : at + get_or counts ch 0 * 65 - at ≡ get_or counts ch 0 * 65 = omega arith in
-        rw (size, g.begins) refl
+    going-part = ap (take (get_or counts ch 0 * 65)) g.left
+
+    -- what is left behind it begins with the next channel's
+    going-left : ch < length counts → drop (get_or counts ch 0 * 65) rest ≡ drop (total (take (ch + 1) counts) * 65) responses
+    going-left h =
+        let from : ℕ = total (take ch counts) * 65 in
+        let own : ℕ = get_or counts ch 0 * 65 in
+        let behind : from + own ≡ total (take (ch + 1) counts) * 65 = omega (arith, total-more counts ch h) in
+        ap (drop own) g.left ∙ drop-drop own from responses ∙ ap (λ (n : ℕ). drop n responses) behind
+
+    -- as many responses are left as the channel has
+    pub going-enough : length responses ≡ total counts * 65 → ch < length counts → get_or counts ch 0 * 65 ≤ length rest
+    going-enough long h = rw (g.left, length-drop (total (take ch counts) * 65) responses) (omega (arith, packed-end counts responses ch long h))
 
     pub going_more :
-        {next sums : List (List Float)} {active : List ℕ} → (1 ≤ sections) × (sections ≤ 8) → next ≡ render_sums ring spectra headroom boundaries sections (get_or counts ch 0)
-        → sums ≡ echo_sums next (take (at + get_or counts ch 0 * 65 - at) (drop at responses)) boundaries sections (get_or counts ch 0)
+        {next sums : List (List Float)} {active : List ℕ} {own later : List Float} → (1 ≤ sections) × (sections ≤ 8)
+        → next ≡ render_sums ring spectra headroom boundaries sections (get_or counts ch 0)
+        → own ≡ take (get_or counts ch 0 * 65) rest → later ≡ drop (get_or counts ch 0 * 65) rest
+        → length own ≡ get_or counts ch 0 * 65
+        → sums ≡ echo_sums next own boundaries sections (length own / 65)
         → active ≡ bands (λ k. active_section sections (λ s. sum_at sums s k))
         → ch < length counts → length counts ≤ 4
-        → Going ring spectra headroom boundaries sections counts responses (set r ch active) next (get_or counts ch 0) (at + get_or counts ch 0 * 65) (ch + 1)
-    going_more {next = next} {sums = sums} {active = active} (some, all) made summed found h few =
+        → Going ring spectra headroom boundaries sections counts responses (set r ch active) next (get_or counts ch 0) later (ch + 1)
+    going_more {next = next} {sums = sums} {active = active} {own = lent} (some, all) made first behind long summed found h few =
         let count : ℕ = get_or counts ch 0 in
         let own : List Float = responses_of counts responses ch in
+        let counted : length lent / 65 ≡ count = omega (arith, long) in
         let echoes : sums ≡ echo_sums (render_sums ring spectra headroom boundaries sections count) own boundaries sections count =
-        summed
-        ∙ ap (λ (x : List (List Float)). echo_sums x (take (at + count * 65 - at) (drop at responses)) boundaries sections count) made
-        ∙ ap (λ (y : List Float). echo_sums (render_sums ring spectra headroom boundaries sections count) y boundaries sections count) going-part in
+        summed ∙ (λ i. echo_sums (made i) ((first ∙ going-part) i) boundaries sections (counted i)) in
         record {
-          begins = omega (arith, g.begins, total-more counts ch h);
+          left = behind ∙ going-left h;
           sums = made;
           stored =
               stored_more active g.stored h few

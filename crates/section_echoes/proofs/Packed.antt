@@ -9,12 +9,10 @@ use native.Mathlib.Omega.{arith}
 use borrow.Author.Tests.{leb-true, le-leb}
 use lib.Dec.{leb}
 use lib.Ieee.{Float}
-use lib.ListN.{length, length-drop, get_or, take, drop}
-use lib.Seq.{length-take-le}
-use Rattle.aec3_common.specs.Lists.{every}
-use Rattle.aec3_common.proofs.Choices.{and_left, and_right}
-use Rattle.aec3_common.proofs.Every.{every-at, every-by}
-use Rattle.section_echoes.specs.Packed.{total, responses_of}
+use lib.ListN.{length, get_or, take}
+use Rattle.std.specs.List.{list_all}
+use Rattle.aec3_common.proofs.Every.{list_all-at, list_all-by}
+use Rattle.section_echoes.specs.Packed.{total}
 
 -- one channel more
 total-on : (counts : List ℕ) (ch : ℕ) → ch < length counts → total (take (suc ch) counts) ≡ total (take ch counts) + get_or counts ch 0
@@ -33,27 +31,14 @@ total-part counts zero = omega arith
 total-part [] (suc n) = omega arith
 total-part (m ∷ ms) (suc n) = omega (arith, total-part ms n)
 
--- with at most so many blocks each there are not many in all
-pub total-small : (most : ℕ) (counts : List ℕ) → every (λ n. leb n most) counts ≡ true → total counts ≤ length counts * most
-unfolding total every
-total-small most [] e = omega arith
-total-small most (n ∷ ns) e =
-    omega (arith, leb-true n most (and_left (leb n most) (every (λ m. leb m most) ns) e), total-small most ns (and_right (leb n most) (every (λ m. leb m most) ns) e))
-
 -- a lower limit keeps a higher one
-pub each-at-most : (most more : ℕ) (counts : List ℕ) → most ≤ more → every (λ n. leb n most) counts ≡ true → every (λ n. leb n more) counts ≡ true
+pub each-at-most : (most more : ℕ) (counts : List ℕ) → most ≤ more → list_all (λ n. leb n most) counts ≡ true → list_all (λ n. leb n more) counts ≡ true
 each-at-most most more counts up ok =
-    every-by (λ n. leb n more) counts 0
-    (λ k h. le-leb (get_or counts k 0) more (omega (arith, leb-true (get_or counts k 0) most (every-at (λ n. leb n most) counts 0 k ok h))))
+    list_all-by (λ n. leb n more) counts 0
+    (λ k h. le-leb (get_or counts k 0) more (omega (arith, leb-true (get_or counts k 0) most (list_all-at (λ n. leb n most) counts 0 k ok h))))
 
-module _ (counts : List ℕ) (responses : List Float) (ch : ℕ) (long : length responses ≡ total counts * 65) (h : ch < length counts) where
-  -- a channel's responses end within the whole
-  pub packed-end : total (take ch counts) * 65 + get_or counts ch 0 * 65 ≤ length responses
-  packed-end = omega (arith, long, total-more counts ch h, total-part counts (ch + 1))
-
-  -- and are as many as its count asks
-  pub packed-long : length (responses_of counts responses ch) ≡ get_or counts ch 0 * 65
-  unfolding responses_of
-  packed-long =
-      let from : ℕ = total (take ch counts) * 65 in
-      length-take-le (get_or counts ch 0 * 65) (drop from responses) (rw (length-drop from responses) (omega (arith, packed-end)))
+-- a channel's responses end within the whole
+pub packed-end :
+    (counts : List ℕ) (responses : List Float) (ch : ℕ) → length responses ≡ total counts * 65 → ch < length counts
+    → total (take ch counts) * 65 + get_or counts ch 0 * 65 ≤ length responses
+packed-end counts responses ch long h = omega (arith, long, total-more counts ch h, total-part counts (ch + 1))

@@ -2,6 +2,8 @@
 use mathlib.Core.Path.{◌≡◌, refl, ap, ◌∙◌}
 use mathlib.Core.Bool.{Bool, true, false, cond}
 use mathlib.Core.List.{List, []}
+use Rattle.std.proofs.lemmas.Bool.Decides.{nat_tests}
+use Rattle.std.proofs.Common.{min}
 use Prim.Native.Nat.{ℕ, zero, suc, ◌+◌, ◌-◌, ◌≤◌, ◌<◌}
 use native.Mathlib.Omega.{arith}
 use lib.Dec.{ltb}
@@ -36,7 +38,10 @@ sections-over sections f stored over =
 
 -- ---- a section's sums
 
-module _ (boundaries : List ℕ) (count s : ℕ) {to : ℕ} (end : to ≡ fewer (get_or boundaries (s + 1) 0) count) where
+module _ (boundaries : List ℕ) (count s : ℕ) {to : ℕ} (least : to ≡ min (get_or boundaries (s + 1) 0) count) where
+  end : to ≡ fewer (get_or boundaries (s + 1) 0) count
+  end = grind (arith, nat_tests)
+
   pub section-render-is :
       (ring : RenderRing) (spectra : List Float) (headroom : ℕ) {r : List Float}
       → r ≡ bands (render_sum ring spectra headroom (get_or boundaries s 0) (to - get_or boundaries s 0))

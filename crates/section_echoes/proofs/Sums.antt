@@ -15,18 +15,18 @@ use Rattle.aec3_common.proofs.Tables.{length-tab, get_or-tab, tab-is, tab-same}
 use Rattle.section_echoes.specs.declared.RenderRing.{RenderRing}
 use Rattle.section_echoes.specs.Walk.{walked_place, slot_length}
 use Rattle.section_echoes.specs.Echoes.{render_share, render_at, render_sum, response_sum}
-use Rattle.section_echoes.specs.Steps.{bands, with_shares, with_powers, numbers_from, with_slot}
+use Rattle.section_echoes.specs.Steps.{bands, numbers_from, with_slot}
 use Rattle.section_echoes.proofs.Walks.{position_of}
 
 -- ---- sums of tables
 
 sum-none : (x : Float) (f : ℕ → Float) → sum_from x (tab zero f) ≡ x
-unfolding tab sum_from
+unfolding tab
 sum-none x f = refl
 
 -- a table with one more entry at its end adds it last
 pub sum_more : (n : ℕ) (x : Float) (f : ℕ → Float) → sum_from x (tab (suc n) f) ≡ add binary32 (sum_from x (tab n f)) (f n)
-unfolding tab sum_from
+unfolding tab
 sum_more zero x f = refl
 sum_more (suc n) x f = sum_more n (add binary32 x (f zero)) (λ k. f (suc k))
 
@@ -35,6 +35,10 @@ pub band-at : {A : Type 0} (d : A) (f : ℕ → A) (xs : List A) (k : ℕ) → x
 band-at d f xs k e b = ap (λ (l : List _). get_or l k d) e ∙ get_or-tab 65 f k d b
 
 -- ---- responses
+
+-- each band with a power added
+abbrev pub with_powers : List Float → List Float → List Float
+with_powers powers sums = bands (λ k. add binary32 (get_or sums k nan) (get_or powers k nan))
 
 module _ (responses : List Float) (from : ℕ) where
   response-none : (k : ℕ) → response_sum responses from zero k ≡ zero32
@@ -59,7 +63,6 @@ module _ (responses : List Float) (from : ℕ) where
   pub response-more :
       (block : ℕ) (sums : List Float) → from ≤ block → sums ≡ bands (response_sum responses from (block - from))
       → with_powers (part responses block) sums ≡ bands (response_sum responses from (block + 1 - from))
-  unfolding with_powers
   response-more block sums h e =
       tab-same 65 nan _ _
       (λ k b.
@@ -67,6 +70,10 @@ module _ (responses : List Float) (from : ℕ) where
       ∙ response-next block k h)
 
 -- ---- a slot of the ring
+
+-- each band with a share of a power added
+abbrev pub with_shares : List Float → Float → List Float → List Float
+with_shares powers share sums = bands (λ k. add binary32 (get_or sums k nan) (mul binary32 (get_or powers k nan) share))
 
 -- the numbers that code lends, from a position to 65 further on
 pub lent-numbers : (spectra : List Float) (p : ℕ) → take (p + 65 - p) (drop p spectra) ≡ numbers_from spectra p
@@ -99,7 +106,7 @@ module _ (spectra : List Float) (position : ℕ) (share : Float) (sums : List Fl
   pub slot-more :
       (ch : ℕ) (r : List Float) → r ≡ with_slot spectra position ch share sums
       → with_shares (numbers_from spectra (position + ch * 65)) share r ≡ with_slot spectra position (ch + 1) share sums
-  unfolding with_slot with_shares
+  unfolding with_slot
   slot-more ch r e =
       tab-same 65 nan _ _
       (λ k b.

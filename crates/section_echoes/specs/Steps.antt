@@ -1,7 +1,7 @@
 -- What inner functions of the code promise or ask; no part of the definition.
 use Rattle.std.specs.Prelude.{◌≡◌, cond, List, [], ℕ, ◌+◌, ◌*◌, ◌≤◌, ◌<◌, ltb, Float, length, get_or, take, drop}
 use Rattle.std.specs.Float.{nan, binary32}
-use Rattle.std.specs.Float.Ieee.{add, mul}
+use Rattle.std.specs.Float.Ieee.{mul}
 use Rattle.aec3_common.specs.Binary32.{zero32}
 use Rattle.aec3_common.specs.Lists.{tab}
 use Rattle.aec3_common.specs.Spectra.{sum_from}
@@ -20,14 +20,6 @@ bands f = tab 65 f
 unfoldable pub walked_positions : RenderRing → ℕ → List ℕ
 walked_positions ring headroom =
     tab max_filter_length_blocks (λ block. walked_place ring.slots ring.position headroom block * slot_length ring.channels)
-
--- each band with a share of a power added
-unfoldable pub with_shares : List Float → Float → List Float → List Float
-with_shares powers share sums = bands (λ k. add binary32 (get_or sums k nan) (mul binary32 (get_or powers k nan) share))
-
--- each band with a power added
-unfoldable pub with_powers : List Float → List Float → List Float
-with_powers powers sums = bands (λ k. add binary32 (get_or sums k nan) (get_or powers k nan))
 
 -- the 65 numbers from a position on
 unfoldable pub numbers_from : List Float → ℕ → List Float

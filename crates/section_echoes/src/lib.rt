@@ -7,13 +7,42 @@ mod echoes;
 mod renders;
 mod walk;
 
+ghost use Rattle.std.specs.Prelude.{◌≤◌, ◌<◌};
+ghost use Rattle.aec3_common.specs.Settings.{max_filter_length_blocks};
+
 pub use channels::all_active_sections;
 
 // How the ring of render spectra is lent: so many slots of so many channels, 65 numbers each, slot by slot and channel by channel;
 // position is the read place, one of the slots.
-#[derive(Clone, Copy)]
+#[derive(Clone, Copy, Debug)]
 pub struct RenderRing {
     pub slots: usize,
     pub channels: usize,
     pub position: usize,
+}
+
+// A ring with its spectra.
+#[derive(Clone, Copy, Debug)]
+pub struct RenderBuffer<'a> {
+    pub ring: RenderRing,
+    pub spectra: &'a [f32],
+}
+
+// The responses of the adaptive filter: how many blocks each capture channel has, and the responses of all, channel by channel and
+// block by block, 65 numbers each.
+#[derive(Clone, Copy, Debug)]
+pub struct FilterResponses<'a> {
+    pub blocks: &'a [usize],
+    pub responses: &'a [f32],
+}
+
+// Where the sections of a filter begin and end: the blocks of headroom before the first, their boundaries, and how many there are.
+#[derive(Clone, Copy, Debug)]
+pub struct SectionPlan {
+    pub headroom: usize,
+    pub boundaries: [usize; 9],
+    pub num_sections: usize,
+    ghost headroom_inside: { headroom < max_filter_length_blocks },
+    ghost some_sections: { 1 ≤ num_sections },
+    ghost few_sections: { num_sections ≤ 8 },
 }

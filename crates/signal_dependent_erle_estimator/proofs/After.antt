@@ -6,7 +6,7 @@ use Prim.Native.Nat.{ℕ}
 use lib.Ieee.{Float}
 use Rattle.aec3_common.proofs.Choices.{cond-by}
 use Rattle.correction_factors.specs.declared.CorrectionFactors.{CorrectionFactors}
-use Rattle.correction_factors.specs.declared.ErleLimits.{ErleLimits}
+use Rattle.aec3_common.specs.declared.settings.ErleLimits.{ErleLimits}
 use Rattle.correction_factors.specs.Steps.{factors_of, corrected_by}
 use Rattle.correction_factors.specs.Streams.{corrected, last_copied}
 use Rattle.correction_factors.proofs.Corrected.{corrected-is}

@@ -9,11 +9,12 @@ use lib.Dec.{ltb}
 use lib.Ieee.{Float, nan}
 use lib.ListN.{length, get_or}
 use Rattle.aec3_common.specs.Binary32.{greatest_value, within, values_ok}
-use Rattle.aec3_common.specs.Lists.{tab, every}
+use Rattle.std.specs.List.{list_all}
+use Rattle.aec3_common.specs.Lists.{tab}
 use Rattle.aec3_common.specs.Spectra.{part}
-use Rattle.aec3_common.proofs.Bands.{part_length, part-every}
+use Rattle.aec3_common.proofs.Bands.{part_length, part-list_all}
 use Rattle.aec3_common.proofs.Choices.{cond_has}
-use Rattle.aec3_common.proofs.Every.{every-by}
+use Rattle.aec3_common.proofs.Every.{list_all-by}
 use Rattle.aec3_common.proofs.Fitting.{Between}
 use Rattle.aec3_common.proofs.Limits.{min-between, number-from}
 use Rattle.aec3_common.proofs.Tables.{length-tab, get_or-tab}
@@ -53,7 +54,7 @@ pub record SpectrumOk (spectrum : List Float) : Type 0 where
 pub spectrum-part :
     (n : ℕ) (spectra : List Float) (ch : ℕ) → length spectra ≡ n * 65 → values_ok spectra ≡ true → ch < n → SpectrumOk (part spectra ch)
 spectrum-part n spectra ch long ok h =
-    record { long = part_length spectra ch (omega arith); values = part-every (within greatest_value) spectra ch ok }
+    record { long = part_length spectra ch (omega arith); values = part-list_all (within greatest_value) spectra ch ok }
 
 -- what an accepted update lends one channel
 pub record LentOk (l : Lent) : Type 0 where
@@ -67,7 +68,7 @@ module _ (g : SignalDependentSettings) (some : 1 ≤ g.num_sections) (few : g.nu
   fresh_kept =
       record {
         sections =
-            every-by (λ n. ltb n g.num_sections) (tab 65 (λ k. 0)) 0
+            list_all-by (λ n. ltb n g.num_sections) (tab 65 (λ k. 0)) 0
             (λ k h.
             let b : k < 65 = omega (arith, length-tab {A = ℕ} 65 (λ j. 0)) in
             rw (get_or-tab {A = ℕ} 65 (λ j. 0) k 0 b) (lt-ltb 0 g.num_sections some));
@@ -84,7 +85,7 @@ module _ (g : SignalDependentSettings) (some : 1 ≤ g.num_sections) (few : g.nu
           }
 
   module _
-      (active : List ℕ) (below : every (λ n. ltb n g.num_sections) active ≡ true)
+      (active : List ℕ) (below : list_all (λ n. ltb n g.num_sections) active ≡ true)
       (render : List Float) (l : Lent) (lent : LentOk l) (c : SignalDependentChannel) (kept : ChannelKept g c)
     where
       learning : CorrectionFactors

@@ -10,7 +10,7 @@ use lib.Ieee.{Float}
 use lib.ListN.{length, get_or}
 use Rattle.aec3_common.specs.Binary32.{values_ok}
 use Rattle.aec3_common.specs.Calls.{lengths_ok, value_refusal}
-use Rattle.aec3_common.specs.Lists.{every}
+use Rattle.std.specs.List.{list_all}
 use Rattle.aec3_common.specs.Refusal.{unless, first_of, accepted, bad_ring, bad_place, bad_state}
 use Rattle.aec3_common.specs.Settings.{max_render_channels, headroom_blocks, render_channels_ok, ranges_ok, sections_ok, max_filter_length_blocks}
 use Rattle.aec3_common.proofs.Calls.{few-channels, first-passed, sections-passed}
@@ -132,7 +132,7 @@ lent-passed g u settings count ring long =
     let (flagged, rendered, captured, left) =
     each-of-four (eqb (length u.converged) u.channels) (eqb (length u.render) 65) (eqb (length u.capture) (u.channels * 65)) (eqb (length u.residual) (u.channels * 65)) firsts in
     let (listed, few, packed) =
-    each-of-three (eqb (length u.counts) u.channels) (every (λ n. leb n most) u.counts) (eqb (length u.responses) (total u.counts * 65))
+    each-of-three (eqb (length u.counts) u.channels) (list_all (λ n. leb n most) u.counts) (eqb (length u.responses) (total u.counts * 65))
     responded in
     record {
       state = settings;
@@ -215,9 +215,8 @@ refusal-not-20 g u lengths values last =
 
 -- sections below a count of eight or fewer are below eight, and so is what stands where there is none
 pub one-of-eight :
-    (sections : ℕ) (active : List ℕ) → sections ≤ 8 → every (λ n. ltb n sections) active ≡ true → (k : ℕ) → get_or active k 0 < 8
-unfolding every
+    (sections : ℕ) (active : List ℕ) → sections ≤ 8 → list_all (λ n. ltb n sections) active ≡ true → (k : ℕ) → get_or active k 0 < 8
 one-of-eight sections [] few ok k = omega arith
-one-of-eight sections (n ∷ ns) few ok zero = omega (arith, ltb-true n sections (and_left (ltb n sections) (every (λ m. ltb m sections) ns) ok))
+one-of-eight sections (n ∷ ns) few ok zero = omega (arith, ltb-true n sections (and_left (ltb n sections) (list_all (λ m. ltb m sections) ns) ok))
 one-of-eight sections (n ∷ ns) few ok (suc k) =
-    one-of-eight sections ns few (and_right (ltb n sections) (every (λ m. ltb m sections) ns) ok) k
+    one-of-eight sections ns few (and_right (ltb n sections) (list_all (λ m. ltb m sections) ns) ok) k

@@ -8,13 +8,13 @@ use borrow.Author.Tests.{eq-eqb, eqb-true}
 use lib.Dec.{ltb, eqb}
 use lib.Ieee.{Float}
 use lib.ListN.{get_or}
-use Rattle.aec3_common.specs.Lists.{every}
+use Rattle.std.specs.List.{list_all}
 use Rattle.aec3_common.specs.Refusal.{accepted, bad_state}
 use Rattle.aec3_common.specs.Spectra.{part}
 use Rattle.aec3_common.proofs.Calls.{limits-passed, first-passed, run-keeps}
 use Rattle.aec3_common.proofs.Choices.{cond_has}
 use Rattle.aec3_common.proofs.Values.{values-not-20}
-use Rattle.aec3_common.proofs.Every.{every_first}
+use Rattle.aec3_common.proofs.Every.{list_all_first}
 use Rattle.aec3_common.proofs.Limits.{InBinary32}
 use Rattle.aec3_common.proofs.Tables.{get_or-tab, get_or-tab-first}
 use Rattle.filter_sections.proofs.Limits.{AllInOrder, all-in-order}
@@ -22,9 +22,8 @@ use Rattle.correction_factors.specs.Factors.{subband_sums}
 use Rattle.signal_dependent_erle_estimator.specs.declared.settings.SignalDependentSettings.{SignalDependentSettings}
 use Rattle.signal_dependent_erle_estimator.specs.declared.channel.SignalDependentChannel.{SignalDependentChannel}
 use Rattle.signal_dependent_erle_estimator.specs.declared.SignalDependentErleEstimator.{SignalDependentErleEstimator}
-use Rattle.signal_dependent_erle_estimator.specs.declared.SignalDependentAnswer.{SignalDependentAnswer}
 use Rattle.signal_dependent_erle_estimator.specs.Channel.{fresh_channel, channel_after}
-use Rattle.signal_dependent_erle_estimator.specs.SignalDependent.{Update, Powers, powers_of, settings_refusal, boundaries_of, same_first, channel_ok, state_ok, state_refusal, lent_values, refusal_of, update_refusal, started, start_answer, reset_answer, no_channel, channel_at, active_of, lent_to, updated, after_block, update_answer}
+use Rattle.signal_dependent_erle_estimator.specs.SignalDependent.{Update, Powers, powers_of, settings_refusal, boundaries_of, same_first, channel_ok, state_ok, state_refusal, lent_values, refusal_of, update_refusal, started, reset_answer, no_channel, channel_at, active_of, lent_to, updated, after_block, after_accepted, update_answer}
 use Rattle.signal_dependent_erle_estimator.specs.Runs.{Call, update, reset, answer, run, NeverBadState}
 use Rattle.signal_dependent_erle_estimator.specs.Range.{FiguresInRange}
 use Rattle.signal_dependent_erle_estimator.proofs.Channels.{ChannelKept, LentOk, spectrum-part, fresh_kept, after_kept, channel-in-range}
@@ -66,7 +65,7 @@ AllLentOk n p average average_compensated = (ch : ℕ) → ch < n → LentOk (le
 
 -- sections that are found of n channels, each below the section count
 abbrev pub SectionsBelow : ℕ → ℕ → (ℕ → List ℕ) → Type 0
-SectionsBelow sections n active = (ch : ℕ) → ch < n → every (λ k. ltb k sections) (active ch) ≡ true
+SectionsBelow sections n active = (ch : ℕ) → ch < n → list_all (λ k. ltb k sections) (active ch) ≡ true
 
 -- and so it does with two packed streams
 all-lent-ok :
@@ -121,10 +120,10 @@ module _ (g : SignalDependentSettings) (ok : SettingsOk g) where
   pub found-below : (s : SignalDependentErleEstimator) (u : Update) → Kept g s → SectionsBelow g.num_sections g.num_capture_channels (active_of s u)
   found-below s u kept ch h =
       let sections = ap (λ (h : SignalDependentSettings). h.num_sections) kept.settings in
-      subst (λ (m : ℕ). every (λ n. ltb n m) (active_of s u ch) ≡ true) sections (active-within s u ch (omega (arith, sections, one-section g ok.passed)))
+      subst (λ (m : ℕ). list_all (λ n. ltb n m) (active_of s u ch) ≡ true) sections (active-within s u ch (omega (arith, sections, one-section g ok.passed)))
 
   answer-kept : (s : SignalDependentErleEstimator) (c : Call) → Kept g s → Kept g (answer s c).state
-  unfolding answer update_answer after_block reset_answer
+  unfolding answer update_answer after_accepted after_block reset_answer
   answer-kept s (update u average average_compensated) kept =
       cond_has (Kept g) (eqb (update_refusal s u average average_compensated) accepted)
       (λ e.
@@ -134,9 +133,9 @@ module _ (g : SignalDependentSettings) (ok : SettingsOk g) where
       (λ e. kept)
   answer-kept s reset kept = cond_has (Kept g) (eqb (state_refusal s) accepted) (λ e. rw kept.settings started-kept) (λ e. kept)
 
-  run-kept : (calls : List Call) → Kept g (run (start_answer g).state calls)
-  unfolding run start_answer
-  run-kept calls = run-keeps (Kept g) (λ s c. (answer s c).state) answer-kept calls _ (rw ok.passed started-kept)
+  run-kept : (calls : List Call) → Kept g (run (started g) calls)
+  unfolding run
+  run-kept calls = run-keeps (Kept g) (λ s c. (answer s c).state) answer-kept calls _ started-kept
 
   pub state-ok : (s : SignalDependentErleEstimator) → Kept g s → state_ok s ≡ true
   unfolding state_ok
@@ -144,7 +143,7 @@ module _ (g : SignalDependentSettings) (ok : SettingsOk g) where
       rw (kept.settings, kept.boundaries, ok.passed)
       (simp (
         same-as-itself (suc g.num_sections) (boundaries_of g),
-        every_first (channel_ok g.num_sections) g.num_capture_channels s.channels no_channel (λ ch h. (kept.channels ch h).sections),
+        list_all_first (channel_ok g.num_sections) g.num_capture_channels s.channels no_channel (λ ch h. (kept.channels ch h).sections),
       ))
 
 -- ---- never refused under 20
@@ -155,23 +154,14 @@ answer-not-20 s (update u average average_compensated) ok e =
     refusal-not-20 s.settings u _ _ (values-not-20 (lent_values u ++ average ++ average_compensated)) (rw ok at e)
 answer-not-20 s reset ok e = let never : ◌≡◌ {A = ℕ} 0 20 = rw ok at e in omega arith
 
-pub never-bad-state : (g : SignalDependentSettings) → SettingsOk g → NeverBadState (start_answer g).state
+pub never-bad-state : (g : SignalDependentSettings) → SettingsOk g → NeverBadState (started g)
 unfolding NeverBadState
 never-bad-state g ok calls next =
-    let s = run (start_answer g).state calls in
+    let s = run (started g) calls in
     answer-not-20 s next (state-ok g ok s (run-kept g ok calls))
 
 -- ---- figures
 
-pub figures-in-range : (g : SignalDependentSettings) → SettingsOk g → FiguresInRange g (start_answer g).state
+pub figures-in-range : (g : SignalDependentSettings) → SettingsOk g → FiguresInRange g (started g)
 unfolding FiguresInRange
 figures-in-range g ok calls ch h = channel-in-range ok.limits ((run-kept g ok calls).channels ch h)
-
--- ---- a start
-
--- what is answered by the definition promises both
-pub start-promises :
-    (g : SignalDependentSettings) {r : SignalDependentAnswer} → InBinary32 g.min g.max_l g.max_h → r ≡ start_answer g → r.refused ≡ accepted
-    → NeverBadState r.state × FiguresInRange g r.state
-unfolding start_answer
-start-promises g held same = rw same (λ e. let ok = settings-ok g held e in (never-bad-state g ok, figures-in-range g ok))

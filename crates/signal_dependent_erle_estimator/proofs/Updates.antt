@@ -8,10 +8,10 @@ use borrow.Author.Tests.{lt-ltb, ltb-true}
 use lib.Dec.{ltb}
 use lib.Ieee.{Float}
 use lib.ListN.{length, get_or, set}
-use Rattle.aec3_common.specs.Lists.{every}
+use Rattle.std.specs.List.{list_all}
 use Rattle.aec3_common.specs.Settings.{headroom_blocks, max_filter_length_blocks}
 use Rattle.aec3_common.proofs.Choices.{cond_same}
-use Rattle.aec3_common.proofs.Every.{every-by}
+use Rattle.aec3_common.proofs.Every.{list_all-by}
 use Rattle.aec3_common.proofs.Tables.{Stored, length-tab, get_or-tab, get_or-tab-first, tab-same, stored_more, stored-firsts}
 use Rattle.section_echoes.specs.Echoes.{active_section, active_sections, echo_sum, section_echo}
 use Rattle.section_echoes.specs.Packed.{responses_of}
@@ -39,10 +39,10 @@ active_in s u ch k =
 -- each is one of the sections
 pub active-within :
     (s : SignalDependentErleEstimator) (u : Update) (ch : ℕ) → 1 ≤ s.settings.num_sections
-    → every (λ n. ltb n s.settings.num_sections) (active_of s u ch) ≡ true
+    → list_all (λ n. ltb n s.settings.num_sections) (active_of s u ch) ≡ true
 unfolding sections_found active_sections
 active-within s u ch some =
-    every-by (λ n. ltb n s.settings.num_sections) (active_of s u ch) 0
+    list_all-by (λ n. ltb n s.settings.num_sections) (active_of s u ch) 0
     (λ k h.
     let b : k < 65 = omega (arith, length-tab 65 (active_in s u ch)) in
     rw (get_or-tab 65 (active_in s u ch) k 0 b) (lt-ltb _ s.settings.num_sections (active-below s.settings.num_sections _ some)))
@@ -70,7 +70,7 @@ module _ (s : SignalDependentErleEstimator) (u : Update) (ok : Passed s.settings
           ap (λ (l : List (List ℕ)). get_or l ch []) (found many)
           ∙ get_or-tab-first 4 (length u.counts) _ (λ j. bands (λ k. 0)) ch [] few-counts (omega (arith, h, ok.counts))
 
-      pub found-within : 1 < g.num_sections → (ch : ℕ) → ch < u.channels → every (λ n. ltb n g.num_sections) (get_or active ch []) ≡ true
+      pub found-within : 1 < g.num_sections → (ch : ℕ) → ch < u.channels → list_all (λ n. ltb n g.num_sections) (get_or active ch []) ≡ true
       found-within many ch h = rw (found-at many ch h) (active-within s u ch (one-section g ok.state))
 
 -- What the loop has done at ch: the records before it are updated, by the active sections that were found, the render sums and what
@@ -112,6 +112,16 @@ module _
         all =
             stored-firsts t.stored over
             ∙ tab-same 4 no_channel _ _ (λ j b. cond_same (ltb j s.settings.num_capture_channels) (channel_at s j) (λ q. rw (summed, same j) refl))
+
+    -- and so is what a block leaves, with two sections or more
+    pub updating-done :
+        (p : Powers) (average average_compensated : ℕ → List Float)
+        → 1 < s.settings.num_sections → s.settings.num_capture_channels ≤ ch
+        → renders ≡ subband_sums p.render → ((ch : ℕ) → lent ch ≡ lent_to p average average_compensated ch)
+        → r ≡ after_block s p (λ ch. get_or active ch []) average average_compensated
+    unfolding after_block
+    updating-done p average average_compensated many over summed same =
+        rw (lt-ltb 1 s.settings.num_sections many) (updating-over p average average_compensated over summed same)
 
 -- Of the active sections only those of the state's channels count, and with one section none.
 pub block-alone :

@@ -5,6 +5,7 @@ use Rattle.correction_factors.specs.Factors.{subband_sums, fresh_factors, lesson
 use Rattle.correction_factors.specs.Streams.{corrected, last_copied}
 use Rattle.correction_factors.specs.declared.CorrectionFactors.{CorrectionFactors}
 use Rattle.signal_dependent_erle_estimator.specs.declared.settings.SignalDependentSettings.{SignalDependentSettings}
+use Rattle.signal_dependent_erle_estimator.specs.declared.channel.ChannelBlock.{ChannelBlock}
 use Rattle.signal_dependent_erle_estimator.specs.declared.channel.SignalDependentChannel.{SignalDependentChannel}
 
 -- a start, and a reset
@@ -27,6 +28,17 @@ pub record Lent : Type 0 where
   pub residual : List Float
   pub average : List Float
   pub average_compensated : List Float
+
+-- as it is lent
+abbrev pub lent_by : ChannelBlock → Lent
+lent_by own =
+    record {
+      converged = own.converged;
+      capture = own.y2.now;
+      residual = own.e2.now;
+      average = own.average.now;
+      average_compensated = own.average_compensated.now;
+    }
 
 -- A converged channel learns, by the active section of each band and the subband sums of render, capture and residual.
 unfoldable pub learnt_if : SignalDependentSettings → List ℕ → List Float → Bool → List Float → List Float → CorrectionFactors → CorrectionFactors

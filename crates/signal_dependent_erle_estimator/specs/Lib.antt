@@ -3,3 +3,4 @@ pub mod Range
 pub mod Runs
 pub mod SignalDependent
 pub mod Steps
+pub mod Settings

@@ -1,9 +1,9 @@
 -- Lists of calls: the state that they leave is taken up again.
 use Rattle.std.specs.Prelude.{◌≡◌, List, Float}
 use Rattle.aec3_common.specs.Calls.{run_by}
+use Rattle.aec3_common.specs.Answers.{Answered}
 use Rattle.aec3_common.specs.Refusal.{bad_state}
 use Rattle.signal_dependent_erle_estimator.specs.declared.SignalDependentErleEstimator.{SignalDependentErleEstimator}
-use Rattle.signal_dependent_erle_estimator.specs.declared.SignalDependentAnswer.{SignalDependentAnswer}
 use Rattle.signal_dependent_erle_estimator.specs.SignalDependent.{Update, reset_answer, update_answer}
 
 -- a call, accepted or refused: an update, with the subband estimator's plain and compensated streams; or a reset
@@ -12,7 +12,7 @@ pub data Call : Type 0 where
   reset : Call
 
 -- what it is answered with
-unfoldable pub answer : SignalDependentErleEstimator → Call → SignalDependentAnswer
+unfoldable pub answer : SignalDependentErleEstimator → Call → Answered SignalDependentErleEstimator
 answer s (update u average average_compensated) = update_answer s u average average_compensated
 answer s reset = reset_answer s
 

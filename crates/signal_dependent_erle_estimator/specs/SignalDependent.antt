@@ -1,14 +1,19 @@
 -- The signal-dependent estimator: start, update and reset, and the calls that are turned away.
-use Rattle.std.specs.Prelude.{Bool, true, false, cond, ◌&&◌, List, [], ◌++◌, ℕ, zero, suc, ◌*◌, leb, ltb, eqb, Float, length, get_or, take}
-use Rattle.aec3_common.specs.Binary32.{zero32}
+use Rattle.std.specs.Prelude.{Bool, true, false, cond, ◌&&◌, List, [], ◌++◌, ℕ, zero, suc, ◌*◌, leb, ltb, eqb, Float, length, get_or, take, Result}
+use Rattle.std.specs.Result.{result_unwrap_or}
+use Rattle.aec3_common.specs.declared.block.Block.{Block}
+use Rattle.aec3_common.specs.Answers.{Answered, answer_case}
 use Rattle.aec3_common.specs.Calls.{lengths_ok, value_refusal}
-use Rattle.aec3_common.specs.Lists.{tab, every}
+use Rattle.std.specs.List.{list_all}
+use Rattle.aec3_common.specs.Lists.{tab}
 use Rattle.aec3_common.specs.Refusal.{unless, first_of, lesser, accepted, bad_channel_count, bad_ring, bad_length, bad_place, bad_state, other_channel_count}
-use Rattle.aec3_common.specs.Settings.{max_capture_channels, headroom_blocks, render_channels_ok, sectioned_settings_refusal}
+use Rattle.aec3_common.specs.Settings.{max_capture_channels, max_sections, headroom_blocks, render_channels_ok, sectioned_settings_refusal}
 use Rattle.aec3_common.specs.Spectra.{part}
 use Rattle.spectrum_buffer.specs.Ring.{slots_ok, place_ok}
 use Rattle.filter_sections.specs.Sections.{sections_answer}
 use Rattle.section_echoes.specs.declared.RenderRing.{RenderRing}
+use Rattle.section_echoes.specs.declared.RenderBuffer.{RenderBuffer}
+use Rattle.section_echoes.specs.declared.FilterResponses.{FilterResponses}
 use Rattle.section_echoes.specs.Walk.{slot_length}
 use Rattle.section_echoes.specs.Packed.{total, responses_of}
 use Rattle.section_echoes.specs.Echoes.{active_sections}
@@ -16,7 +21,6 @@ use Rattle.correction_factors.specs.Factors.{subband_sums}
 use Rattle.signal_dependent_erle_estimator.specs.declared.settings.SignalDependentSettings.{SignalDependentSettings}
 use Rattle.signal_dependent_erle_estimator.specs.declared.channel.SignalDependentChannel.{SignalDependentChannel}
 use Rattle.signal_dependent_erle_estimator.specs.declared.SignalDependentErleEstimator.{SignalDependentErleEstimator}
-use Rattle.signal_dependent_erle_estimator.specs.declared.SignalDependentAnswer.{SignalDependentAnswer}
 use Rattle.signal_dependent_erle_estimator.specs.Channel.{Lent, fresh_channel, channel_after}
 
 -- What an update is lent, here and in the whole estimator: the call's channel count; the ring and its spectra, which make the echoes;
@@ -33,6 +37,21 @@ pub record Update : Type 0 where
   pub capture : List Float
   pub residual : List Float
   pub converged : List Bool
+
+-- as a call lends it
+abbrev pub update_lent : RenderBuffer → FilterResponses → Block → Update
+update_lent render responses block =
+    record {
+      channels = block.num_capture_channels;
+      ring = render.ring;
+      spectra = render.spectra.now;
+      counts = responses.blocks.now;
+      responses = responses.responses.now;
+      render = block.x2.now;
+      capture = block.y2.now;
+      residual = block.e2.now;
+      converged = block.converged_filters.now;
+    }
 
 -- An update in two, beside its channel count: what the echoes are made of, which give the active sections; and the powers and flags, which by
 -- these sections (and here the two streams) move the estimator.
@@ -54,6 +73,16 @@ pub record Powers : Type 0 where
 abbrev pub powers_of : Update → Powers
 powers_of u = record { render = u.render; capture = u.capture; residual = u.residual; converged = u.converged }
 
+-- as a call lends them
+abbrev pub powers_lent : Block → Powers
+powers_lent block =
+    record {
+      render = block.x2.now;
+      capture = block.y2.now;
+      residual = block.e2.now;
+      converged = block.converged_filters.now;
+    }
+
 -- ---- calls turned away
 
 -- the first of 1, 2 and 3 that the settings break, or 0
@@ -62,9 +91,10 @@ settings_refusal s =
     sectioned_settings_refusal s.min s.max_l s.max_h s.num_capture_channels
     s.num_sections s.filter_length_blocks s.delay_headroom_samples
 
--- the boundaries that the settings give, zeros behind them
+-- the boundaries that the settings give, zeros behind them; zeros alone where number 3 turns the settings away
 unfoldable pub boundaries_of : SignalDependentSettings → List ℕ
-boundaries_of s = (sections_answer s.num_sections s.filter_length_blocks s.delay_headroom_samples).boundaries
+boundaries_of s =
+    result_unwrap_or (sections_answer s.num_sections s.filter_length_blocks s.delay_headroom_samples) (tab (suc max_sections) (λ k. 0))
 
 -- whether two lists have the same first n numbers
 unfoldable pub same_first : ℕ → List ℕ → List ℕ → Bool
@@ -77,14 +107,14 @@ settings_pass s held = eqb (settings_refusal s) accepted && same_first (suc s.nu
 
 -- every active section is below the section count
 unfoldable pub channel_ok : ℕ → SignalDependentChannel → Bool
-channel_ok sections c = every (λ n. ltb n sections) c.n_active_sections
+channel_ok sections c = list_all (λ n. ltb n sections) c.n_active_sections
 
 -- Number 20: settings and section boundaries pass, and each of the state's channels. Records beyond them are not judged, nor numbers
 -- behind the last boundary.
 unfoldable pub state_ok : SignalDependentErleEstimator → Bool
 state_ok s =
     let g = s.settings in
-    settings_pass g s.section_boundaries_blocks && every (channel_ok g.num_sections) (take g.num_capture_channels s.channels)
+    settings_pass g s.section_boundaries_blocks && list_all (channel_ok g.num_sections) (take g.num_capture_channels s.channels)
 
 -- a reset is turned away under 20 alone
 unfoldable pub state_refusal : SignalDependentErleEstimator → ℕ
@@ -105,7 +135,7 @@ ring_refusal headroom ring =
 -- a count of response blocks for each channel, none above the filter length, and 65 numbers for each block
 unfoldable pub responses_ok : ℕ → ℕ → List ℕ → List Float → Bool
 responses_ok channels filter_length counts responses =
-    eqb (length counts) channels && every (λ n. leb n filter_length) counts && eqb (length responses) (total counts * 65)
+    eqb (length counts) channels && list_all (λ n. leb n filter_length) counts && eqb (length responses) (total counts * 65)
 
 -- number 5, of what an update is lent
 unfoldable pub lent_lengths_ok : ℕ → Update → Bool
@@ -160,27 +190,12 @@ started s =
       channels = tab max_capture_channels (λ ch. fresh_channel s.min);
     }
 
--- what a refused start answers with: settings that number 20 turns away
-unfoldable pub refused_settings : SignalDependentSettings
-refused_settings =
-    record {
-      min = zero32;
-      max_l = zero32;
-      max_h = zero32;
-      onset_detection = false;
-      num_capture_channels = 0;
-      num_sections = 0;
-      filter_length_blocks = 0;
-      delay_headroom_samples = 0;
-    }
-
-unfoldable pub start_answer : SignalDependentSettings → SignalDependentAnswer
-start_answer s =
-    let n = settings_refusal s in
-    record { state = started (cond (eqb n accepted) s refused_settings); refused = n }
+-- a start is accepted, or refused under 1, 2 or 3
+unfoldable pub start_answer : SignalDependentSettings → Result SignalDependentErleEstimator ℕ
+start_answer s = answer_case (settings_refusal s) (started s)
 
 -- a reset leaves what a start with the state's settings gives
-unfoldable pub reset_answer : SignalDependentErleEstimator → SignalDependentAnswer
+unfoldable pub reset_answer : SignalDependentErleEstimator → Answered SignalDependentErleEstimator
 reset_answer s =
     let n = state_refusal s in
     record { state = cond (eqb n accepted) (started s.settings) s; refused = n }
@@ -240,12 +255,12 @@ unfoldable pub after_block :
     SignalDependentErleEstimator → Powers → (active : ℕ → List ℕ) → (average average_compensated : ℕ → List Float) → SignalDependentErleEstimator
 after_block s p active average average_compensated = cond (ltb 1 s.settings.num_sections) (updated s p active average average_compensated) s
 
--- The answer: the next state, by the active sections that are found, and 0; or the state as it was and the refusal. The two streams are lent
--- packed, 65 numbers for each channel.
-unfoldable pub update_answer : SignalDependentErleEstimator → Update → List Float → List Float → SignalDependentAnswer
+-- An accepted update is that, by the active sections that it finds. The two streams are lent packed, 65 numbers for each channel.
+unfoldable pub after_accepted : SignalDependentErleEstimator → Update → List Float → List Float → SignalDependentErleEstimator
+after_accepted s u average average_compensated = after_block s (powers_of u) (active_of s u) (part average) (part average_compensated)
+
+-- The answer: the next state and 0; or the state as it was and the refusal.
+unfoldable pub update_answer : SignalDependentErleEstimator → Update → List Float → List Float → Answered SignalDependentErleEstimator
 update_answer s u average average_compensated =
     let n = update_refusal s u average average_compensated in
-    record {
-      state = cond (eqb n accepted) (after_block s (powers_of u) (active_of s u) (part average) (part average_compensated)) s;
-      refused = n;
-    }
+    record { state = cond (eqb n accepted) (after_accepted s u average average_compensated) s; refused = n }

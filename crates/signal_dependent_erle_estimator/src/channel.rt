@@ -1,15 +1,13 @@
 // One channel's record: its streams, its active sections, and what it has learnt.
 ghost use Rattle.std.specs.Prelude.{◌≡◌, true, ◌≤◌, ltb, length};
-ghost use Rattle.aec3_common.specs.Lists.{every};
-ghost use Rattle.signal_dependent_erle_estimator.specs.Channel.{fresh_channel, learnt_if, channel_after};
-ghost use Rattle.signal_dependent_erle_estimator.specs.SignalDependent.{channel_ok};
+ghost use Rattle.std.specs.List.{list_all};
 
 use crate::settings::SignalDependentSettings;
 use correction_factors::{
     CorrectionFactors, band_factors, copy_last, correct_stream, subband_sums,
 };
 
-#[derive(Clone, Copy)]
+#[derive(Clone, Copy, Debug)]
 pub struct SignalDependentChannel {
     pub erle: [f32; 65],
     pub erle_onset_compensated: [f32; 65],
@@ -17,19 +15,21 @@ pub struct SignalDependentChannel {
     pub n_active_sections: [u32; 65],
 }
 
-// Whether every section is below a count. No branch leaves the loop early, as in the check of values.
-fn all_below(active: &[u32; 65], sections: u32) -> bool
-    requires { length active.now ≡ 65 }
-    ensures { result ≡ every (λ n. ltb n sections) active.now }
-{
-    let mut ok = true;
-    for k in 0..65 {
-        ok = ok & (active[k] < sections);
-    }
-    ok
+// A channel's own part of a block: whether it is converged, its capture and residual power, and the subband estimator's plain and
+// compensated streams, 65 numbers each.
+#[derive(Clone, Copy, Debug)]
+pub struct ChannelBlock<'a> {
+    pub converged: bool,
+    pub y2: &'a [f32],
+    pub e2: &'a [f32],
+    pub average: &'a [f32],
+    pub average_compensated: &'a [f32],
 }
 
 impl SignalDependentChannel {
+    ghost use Rattle.signal_dependent_erle_estimator.specs.Channel.{lent_by, fresh_channel, learnt_if, channel_after};
+    ghost use Rattle.signal_dependent_erle_estimator.specs.SignalDependent.{channel_ok};
+
     #[tactic(auto, unfolding(crate::specs::Channel::fresh_channel, aec3_common::specs::Lists::tab))]
     pub fn new(min: f32) -> SignalDependentChannel
         ensures { result ≡ fresh_channel min }
@@ -42,12 +42,12 @@ impl SignalDependentChannel {
         }
     }
 
-    // Whether number 20 lets the record pass.
+    // Whether number 20 lets the record pass: every active section is below the count.
     #[tactic(auto, unfolding(crate::specs::SignalDependent::channel_ok))]
     pub fn ok(&self, sections: u32) -> bool
         ensures { result ≡ channel_ok sections self.now }
     {
-        all_below(&self.n_active_sections, sections)
+        self.n_active_sections.iter().all(|&n| n < sections)
     }
 
     // What the channel has learnt after an update: where it is not converged, nothing new.
@@ -57,29 +57,23 @@ impl SignalDependentChannel {
         settings: SignalDependentSettings,
         active: &[u32; 65],
         x2: &[f32; 6],
-        converged: bool,
-        y2: &[f32],
-        e2: &[f32],
+        own: &ChannelBlock,
     ) -> CorrectionFactors
         requires bound { (1 ≤ settings.num_sections) × (settings.num_sections ≤ 8) }
-        requires y2_len { (length y2.now ≡ 65) × (length e2.now ≡ 65) }
-        ensures { result ≡ learnt_if settings active.now x2.now converged y2.now e2.now self.corrections }
+        requires y2_len { (length own.now.y2.now ≡ 65) × (length own.now.e2.now ≡ 65) }
+        ensures { result ≡ learnt_if settings active.now x2.now own.now.converged own.now.y2.now own.now.e2.now self.corrections }
     {
-        let corrections = self.corrections;
-        if converged {
-            let y2_subbands = subband_sums(y2);
-            let e2_subbands = subband_sums(e2);
-            corrections.update(
-                settings.limits(),
-                settings.num_sections,
-                active,
-                x2,
-                &y2_subbands,
-                &e2_subbands,
-            )
-        } else {
-            corrections
+        if !own.converged {
+            return self.corrections;
         }
+        self.corrections.update(
+            settings.limits(),
+            settings.num_sections,
+            active,
+            x2,
+            &subband_sums(own.y2),
+            &subband_sums(own.e2),
+        )
     }
 
     // One update, by the active section of each band and the subband sums of the render power.
@@ -88,28 +82,23 @@ impl SignalDependentChannel {
         settings: SignalDependentSettings,
         active: &[u32; 65],
         x2: &[f32; 6],
-        converged: bool,
-        y2: &[f32],
-        e2: &[f32],
-        average: &[f32],
-        average_compensated: &[f32],
+        own: &ChannelBlock,
     ) -> SignalDependentChannel
         requires bound { (1 ≤ settings.num_sections) × (settings.num_sections ≤ 8) }
-        requires active_value { every (λ n. ltb n settings.num_sections) active.now ≡ true }
-        requires y2_len { (length y2.now ≡ 65) × (length e2.now ≡ 65) × (length average.now ≡ 65) × (length average_compensated.now ≡ 65) }
-        ensures { result ≡ channel_after settings active.now x2.now (record { converged = converged; capture = y2.now; residual = e2.now; average = average.now; average_compensated = average_compensated.now }) self }
+        requires active_value { list_all (λ n. ltb n settings.num_sections) active.now ≡ true }
+        requires y2_len { (length own.now.y2.now ≡ 65) × (length own.now.e2.now ≡ 65) × (length own.now.average.now ≡ 65) × (length own.now.average_compensated.now ≡ 65) }
+        ensures { result ≡ channel_after settings active.now x2.now (lent_by own.now) self }
     {
-        let corrections = self.learnt(settings, active, x2, converged, y2, e2);
+        let corrections = self.learnt(settings, active, x2, own);
         self.corrections = corrections;
         self.n_active_sections = *active;
-        let learnt = corrections.correction_factors;
-        let factors = band_factors(&learnt, active);
+        let factors = band_factors(&corrections.correction_factors, active);
         let limits = settings.limits();
-        correct_stream(&mut self.erle, average, &factors, limits);
+        correct_stream(&mut self.erle, own.average, &factors, limits);
         if settings.onset_detection {
             correct_stream(
                 &mut self.erle_onset_compensated,
-                average_compensated,
+                own.average_compensated,
                 &factors,
                 limits,
             );

@@ -1,20 +1,20 @@
 // Which updates are turned away.
-ghost use Rattle.std.specs.Prelude.{◌≡◌, ◌&&◌, ◌++◌, ◌*◌, ◌≤◌, leb, eqb, length};
+ghost use Rattle.std.specs.Prelude.{◌≡◌, ◌&&◌, ◌++◌, ◌*◌, leb, eqb, length};
+ghost use Rattle.aec3_common.specs.Answers.{number_of};
 ghost use Rattle.aec3_common.specs.Calls.{value_refusal};
-ghost use Rattle.aec3_common.specs.Lists.{every};
+ghost use Rattle.std.specs.List.{list_all};
 ghost use Rattle.section_echoes.specs.Packed.{total};
 ghost use Rattle.section_echoes.specs.Walk.{slot_length};
-ghost use Rattle.signal_dependent_erle_estimator.specs.SignalDependent.{Update, slots_reach, ring_refusal, responses_ok, lent_lengths_ok, refusal_beside, refusal_of};
-ghost use Rattle.spectrum_buffer.specs.Ring.{max_slots};
+ghost use Rattle.signal_dependent_erle_estimator.specs.SignalDependent.{update_lent, slots_reach, ring_refusal, responses_ok, lent_lengths_ok, lent_values, refusal_beside, refusal_of};
 
+use crate::Averages;
 use crate::settings::SignalDependentSettings;
-use aec3_common::judge::{lengths_ok, lesser, powers_refusal, value_refusal};
-use aec3_common::refusal::{
-    ACCEPTED, BAD_CHANNEL_COUNT, BAD_LENGTH, BAD_PLACE, BAD_RING, BAD_STATE, OTHER_CHANNEL_COUNT,
-};
+use aec3_common::block::judge_values;
+use aec3_common::refusal::lesser;
 use aec3_common::settings::{headroom_blocks, render_channels_ok};
 use aec3_common::spectra::are_spectra;
-use section_echoes::RenderRing;
+use aec3_common::{Block, Refusal};
+use section_echoes::{FilterResponses, RenderBuffer, RenderRing};
 use spectrum_buffer::slots_ok;
 
 // Number 4: the slots are in their range, and the headroom blocks are not above them.
@@ -24,32 +24,27 @@ fn slots_reach(slots: usize, headroom: usize) -> bool
     slots_ok(slots) & (headroom <= slots)
 }
 
-// The first of 2, 4 and 9 that a ring breaks, or 0.
+// The first of 2, 4 and 9 that a ring breaks.
 #[tactic(auto, unfolding(crate::specs::SignalDependent::ring_refusal))]
-pub fn ring_refusal(ring: RenderRing, headroom: usize) -> u32
-    ensures { result ≡ ring_refusal headroom ring }
+pub fn judge_ring(ring: RenderRing, headroom: usize) -> Result<(), Refusal>
+    ensures { number_of result ≡ ring_refusal headroom ring }
 {
     if !render_channels_ok(ring.channels) {
-        BAD_CHANNEL_COUNT
-    } else if !slots_reach(ring.slots, headroom) {
-        BAD_RING
-    } else if ring.position < ring.slots {
-        ACCEPTED
-    } else {
-        BAD_PLACE
+        return Err(Refusal::BadChannelCount);
     }
+    if !slots_reach(ring.slots, headroom) {
+        return Err(Refusal::BadRing);
+    }
+    if ring.position >= ring.slots {
+        return Err(Refusal::BadPlace);
+    }
+    Ok(())
 }
 
 fn counts_ok(counts: &[usize], filter_length: usize) -> bool
-    ensures { result ≡ every (λ n. leb n filter_length) counts.now }
+    ensures { result ≡ list_all (λ n. leb n filter_length) counts.now }
 {
-    let mut ok = true;
-    let mut ch = 0;
-    while ch < counts.len() {
-        ok = ok & (counts[ch] <= filter_length);
-        ch += 1;
-    }
-    ok
+    counts.iter().all(|&n| n <= filter_length)
 }
 
 // Whether the counts add up to so many blocks. Their sum could wrap, and is not made.
@@ -57,172 +52,127 @@ fn add_up_to(blocks: usize, counts: &[usize]) -> bool
     ensures { result ≡ eqb blocks (total counts.now) }
 {
     let mut left = blocks;
-    let mut ch = 0;
-    while ch < counts.len() {
-        if left < counts[ch] {
+    for &count in counts {
+        let Some(rest) = left.checked_sub(count) else {
             return false;
-        }
-        left = left - counts[ch];
-        ch += 1;
+        };
+        left = rest;
     }
     left == 0
 }
 
 // Number 5, of the responses.
-fn responses_ok(channels: usize, filter_length: usize, counts: &[usize], responses: &[f32]) -> bool
-    ensures { result ≡ responses_ok channels filter_length counts.now responses.now }
+fn responses_ok(channels: usize, filter_length: usize, responses: &FilterResponses) -> bool
+    ensures { result ≡ responses_ok channels filter_length responses.now.blocks.now responses.now.responses.now }
 {
-    (counts.len() == channels)
-        & counts_ok(counts, filter_length)
-        & (responses.len() % 65 == 0)
-        & add_up_to(responses.len() / 65, counts)
+    (responses.blocks.len() == channels)
+        & counts_ok(responses.blocks, filter_length)
+        & (responses.responses.len() % 65 == 0)
+        & add_up_to(responses.responses.len() / 65, responses.blocks)
 }
 
-// Number 5, of the spectra of a ring in its range.
-fn spectra_ok(ring: RenderRing, spectra: &[f32]) -> bool
-    requires { (ring.slots ≤ max_slots) × (ring.channels ≤ 2) }
-    ensures { result ≡ eqb (length spectra.now) (ring.slots * slot_length ring.channels) }
+// Number 5, of the spectra of a ring. A product that would wrap is more than there are.
+fn spectra_ok(render: &RenderBuffer) -> bool
+    ensures { result ≡ eqb (length render.now.spectra.now) (render.now.ring.slots * slot_length render.now.ring.channels) }
 {
-    spectra.len() == ring.slots * (ring.channels * 65)
+    let spectra = render.ring.slots.checked_mul(render.ring.channels);
+    spectra.is_some_and(|n| are_spectra(render.spectra.len(), n))
 }
 
 // Number 5, of what is lent.
 #[tactic(auto, unfolding(crate::specs::SignalDependent::lent_lengths_ok))]
 fn lent_lengths_ok(
     filter_length: usize,
-    channels: usize,
-    ring: RenderRing,
-    spectra: &[f32],
-    counts: &[usize],
-    responses: &[f32],
-    x2: &[f32],
-    y2: &[f32],
-    e2: &[f32],
-    converged: &[bool],
+    render: &RenderBuffer,
+    responses: &FilterResponses,
+    block: &Block,
 ) -> bool
-    requires { (ring.slots ≤ max_slots) × (ring.channels ≤ 2) }
-    ensures { result ≡ lent_lengths_ok filter_length (record { channels = channels; ring = ring; spectra = spectra.now; counts = counts.now; responses = responses.now; render = x2.now; capture = y2.now; residual = e2.now; converged = converged.now }) }
+    ensures { result ≡ lent_lengths_ok filter_length (update_lent render.now responses.now block.now) }
 {
-    lengths_ok(channels, converged, x2, y2, e2)
-        & spectra_ok(ring, spectra)
-        & responses_ok(channels, filter_length, counts, responses)
+    block.lengths_ok()
+        & spectra_ok(render)
+        & responses_ok(block.num_capture_channels, filter_length, responses)
 }
 
-// Of the values of what is lent: 6, or 0.
-#[tactic(auto, using(aec3_common::proofs::Values::value_refusal_append))]
-fn lent_values_refusal(
-    spectra: &[f32],
-    responses: &[f32],
-    x2: &[f32],
-    y2: &[f32],
-    e2: &[f32],
-) -> u32
-    ensures { result ≡ value_refusal (x2.now ++ y2.now ++ e2.now ++ spectra.now ++ responses.now) }
+// Number 6, of the values of what is lent.
+#[tactic(auto, using(aec3_common::proofs::Values::value_refusal_append), unfolding(crate::specs::SignalDependent::lent_values))]
+fn judge_lent_values(
+    render: &RenderBuffer,
+    responses: &FilterResponses,
+    block: &Block,
+) -> Result<(), Refusal>
+    ensures { number_of result ≡ value_refusal (lent_values (update_lent render.now responses.now block.now)) }
 {
-    lesser(
-        lesser(powers_refusal(x2, y2, e2), value_refusal(spectra)),
-        value_refusal(responses),
-    )
+    let powers = lesser(block.judge_values(), judge_values(render.spectra));
+    lesser(powers, judge_values(responses.responses))
 }
 
-// Number 5, of the subband estimator's two streams.
-fn streams_lengths_ok(channels: usize, average: &[f32], average_compensated: &[f32]) -> bool
-    ensures { result ≡ eqb (length average.now) (channels * 65) && eqb (length average_compensated.now) (channels * 65) }
-{
-    are_spectra(average.len(), channels) & are_spectra(average_compensated.len(), channels)
+impl Averages<'_> {
+    // Number 5, of the two streams.
+    fn lengths_ok(&self, channels: usize) -> bool
+        ensures { result ≡ eqb (length self.now.plain.now) (channels * 65) && eqb (length self.now.compensated.now) (channels * 65) }
+    {
+        are_spectra(self.plain.len(), channels) & are_spectra(self.compensated.len(), channels)
+    }
+
+    // Number 6, of their values.
+    #[tactic(auto, using(aec3_common::proofs::Values::value_refusal_append))]
+    fn judge_values(&self) -> Result<(), Refusal>
+        ensures { number_of result ≡ value_refusal (self.now.plain.now ++ self.now.compensated.now) }
+    {
+        lesser(judge_values(self.plain), judge_values(self.compensated))
+    }
 }
 
-// Of the values of the two: 6, or 0.
-#[tactic(auto, using(aec3_common::proofs::Values::value_refusal_append))]
-fn streams_refusal(average: &[f32], average_compensated: &[f32]) -> u32
-    ensures { result ≡ value_refusal (average.now ++ average_compensated.now) }
-{
-    lesser(value_refusal(average), value_refusal(average_compensated))
-}
-
-// The first of 20, 21, 2, 4, 9, 5 and 6, or 0, where it is known whether number 20 lets the state pass; and of what the caller is lent
-// besides, whether it has the length that is asked, and under which number its values are turned away.
-#[tactic(auto, unfolding(crate::specs::SignalDependent::lent_values))]
-pub fn refusal_beside(
+// The first of 20, 21, 2, 4, 9, 5 and 6, where it is known whether number 20 lets the state pass; and of what the caller is lent besides,
+// whether it has the length that is asked, and whether its values are turned away. Seven parameters: what a call is lent as it stands in the
+// call, and what is known besides; a struct of them would be made for each call and taken apart at once.
+pub fn judge_beside(
     state_ok: bool,
     settings: SignalDependentSettings,
-    channels: usize,
-    ring: RenderRing,
-    spectra: &[f32],
-    counts: &[usize],
-    responses: &[f32],
-    x2: &[f32],
-    y2: &[f32],
-    e2: &[f32],
-    converged: &[bool],
+    render: &RenderBuffer,
+    responses: &FilterResponses,
+    block: &Block,
     others_lengths_ok: bool,
-    others_refused: u32,
-) -> u32
-    ensures { result ≡ refusal_beside state_ok settings (record { channels = channels; ring = ring; spectra = spectra.now; counts = counts.now; responses = responses.now; render = x2.now; capture = y2.now; residual = e2.now; converged = converged.now }) others_lengths_ok others_refused }
+    others: Result<(), Refusal>,
+) -> Result<(), Refusal>
+    ensures { number_of result ≡ refusal_beside state_ok settings (update_lent render.now responses.now block.now) others_lengths_ok (number_of others) }
 {
     if !state_ok {
-        return BAD_STATE;
+        return Err(Refusal::BadState);
     }
-    if channels != settings.num_capture_channels {
-        return OTHER_CHANNEL_COUNT;
+    if block.num_capture_channels != settings.num_capture_channels {
+        return Err(Refusal::OtherChannelCount);
     }
-    let refused = ring_refusal(ring, headroom_blocks(settings.delay_headroom_samples));
-    if refused != ACCEPTED {
-        return refused;
+    judge_ring(
+        render.ring,
+        headroom_blocks(settings.delay_headroom_samples),
+    )?;
+    let lengths_ok = lent_lengths_ok(settings.filter_length_blocks, render, responses, block);
+    if !(lengths_ok & others_lengths_ok) {
+        return Err(Refusal::BadLength);
     }
-    let lengths_ok = lent_lengths_ok(
-        settings.filter_length_blocks,
-        channels,
-        ring,
-        spectra,
-        counts,
-        responses,
-        x2,
-        y2,
-        e2,
-        converged,
-    );
-    if lengths_ok & others_lengths_ok {
-        lesser(
-            lent_values_refusal(spectra, responses, x2, y2, e2),
-            others_refused,
-        )
-    } else {
-        BAD_LENGTH
-    }
+    lesser(judge_lent_values(render, responses, block), others)
 }
 
-// The first of 20, 21, 2, 4, 9, 5 and 6, or 0, where it is known whether number 20 lets the state pass.
-pub fn update_refusal(
+// The first of 20, 21, 2, 4, 9, 5 and 6, where it is known whether number 20 lets the state pass. Six parameters, as above.
+pub fn judge_update(
     state_ok: bool,
     settings: SignalDependentSettings,
-    channels: usize,
-    ring: RenderRing,
-    spectra: &[f32],
-    counts: &[usize],
-    responses: &[f32],
-    x2: &[f32],
-    y2: &[f32],
-    e2: &[f32],
-    average: &[f32],
-    average_compensated: &[f32],
-    converged: &[bool],
-) -> u32
-    ensures { result ≡ refusal_of state_ok settings (record { channels = channels; ring = ring; spectra = spectra.now; counts = counts.now; responses = responses.now; render = x2.now; capture = y2.now; residual = e2.now; converged = converged.now }) average.now average_compensated.now }
+    render: &RenderBuffer,
+    responses: &FilterResponses,
+    block: &Block,
+    averages: &Averages,
+) -> Result<(), Refusal>
+    ensures { number_of result ≡ refusal_of state_ok settings (update_lent render.now responses.now block.now) averages.now.plain.now averages.now.compensated.now }
 {
-    refusal_beside(
+    judge_beside(
         state_ok,
         settings,
-        channels,
-        ring,
-        spectra,
-        counts,
+        render,
         responses,
-        x2,
-        y2,
-        e2,
-        converged,
-        streams_lengths_ok(channels, average, average_compensated),
-        streams_refusal(average, average_compensated),
+        block,
+        averages.lengths_ok(block.num_capture_channels),
+        averages.judge_values(),
     )
 }

@@ -1,11 +1,11 @@
 // The settings of the signal-dependent estimator.
 ghost use Rattle.std.specs.Prelude.{◌≡◌};
-ghost use Rattle.signal_dependent_erle_estimator.specs.SignalDependent.{settings_refusal, refused_settings};
+ghost use Rattle.aec3_common.specs.Answers.{number_of};
 
-use aec3_common::settings::sectioned_settings_refusal;
-use correction_factors::ErleLimits;
+use aec3_common::settings::judge_sectioned_settings;
+use aec3_common::{ErleLimits, ErleSettings, FilterLayout, Refusal};
 
-#[derive(Clone, Copy)]
+#[derive(Clone, Copy, Debug)]
 pub struct SignalDependentSettings {
     pub min: f32,
     pub max_l: f32,
@@ -17,47 +17,54 @@ pub struct SignalDependentSettings {
     pub delay_headroom_samples: usize,
 }
 
-// Settings without a channel, which 20 turns away.
-#[tactic(auto, unfolding(crate::specs::SignalDependent::refused_settings, aec3_common::specs::Binary32::zero32))]
-pub fn refused_settings() -> SignalDependentSettings
-    ensures { result ≡ refused_settings }
-{
-    SignalDependentSettings {
-        min: 0.0,
-        max_l: 0.0,
-        max_h: 0.0,
-        onset_detection: false,
-        num_capture_channels: 0,
-        num_sections: 0,
-        filter_length_blocks: 0,
-        delay_headroom_samples: 0,
+// The share of the whole estimator's settings.
+impl From<ErleSettings> for SignalDependentSettings {
+    ghost use Rattle.signal_dependent_erle_estimator.specs.Settings.{signal_settings};
+
+    ghost from_gives = { λ settings share. share ≡ signal_settings settings };
+
+    fn from(settings: ErleSettings) -> SignalDependentSettings {
+        SignalDependentSettings {
+            min: settings.min,
+            max_l: settings.max_l,
+            max_h: settings.max_h,
+            onset_detection: settings.onset_detection,
+            num_capture_channels: settings.num_capture_channels,
+            num_sections: settings.num_sections,
+            filter_length_blocks: settings.filter_length_blocks,
+            delay_headroom_samples: settings.delay_headroom_samples,
+        }
     }
 }
 
 impl SignalDependentSettings {
-    // The first of 1, 2 and 3 that the settings break, or 0.
+    ghost use Rattle.signal_dependent_erle_estimator.specs.SignalDependent.{settings_refusal};
+
+    // The first of 1, 2 and 3 that the settings break.
     #[tactic(auto, unfolding(crate::specs::SignalDependent::settings_refusal))]
-    pub fn refusal(self) -> u32
-        ensures { result ≡ settings_refusal self }
+    pub fn judge(self) -> Result<(), Refusal>
+        ensures { number_of result ≡ settings_refusal self }
     {
-        sectioned_settings_refusal(
-            self.min,
-            self.max_l,
-            self.max_h,
-            self.num_capture_channels,
-            self.num_sections,
-            self.filter_length_blocks,
-            self.delay_headroom_samples,
-        )
+        judge_sectioned_settings(self.limits(), self.num_capture_channels, self.layout())
     }
 
-    pub(crate) fn limits(self) -> ErleLimits
+    pub fn limits(self) -> ErleLimits
         ensures { result ≡ (record { min = self.min; max_l = self.max_l; max_h = self.max_h }) }
     {
         ErleLimits {
             min: self.min,
             max_l: self.max_l,
             max_h: self.max_h,
+        }
+    }
+
+    pub(crate) fn layout(self) -> FilterLayout
+        ensures { result ≡ (record { num_sections = self.num_sections; filter_length_blocks = self.filter_length_blocks; delay_headroom_samples = self.delay_headroom_samples }) }
+    {
+        FilterLayout {
+            num_sections: self.num_sections,
+            filter_length_blocks: self.filter_length_blocks,
+            delay_headroom_samples: self.delay_headroom_samples,
         }
     }
 }

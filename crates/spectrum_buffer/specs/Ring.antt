@@ -1,8 +1,7 @@
 -- Places in a ring of slots.
-use Rattle.std.specs.Prelude.{Bool, cond, List, [], ◌∷◌, ℕ, ◌+◌, leb, ltb, eqb, ℤ, pos, nat_abs, ◌+ℤ◌}
+use Rattle.std.specs.Prelude.{Bool, cond, List, [], ◌∷◌, ℕ, ◌+◌, leb, ltb, ℤ, pos, nat_abs, ◌+ℤ◌, Result, Ok, Err}
 use Rattle.std.specs.Int.Signed.{lt_z, rem_z}
-use Rattle.spectrum_buffer.specs.declared.Place.{Place}
-use Rattle.spectrum_buffer.specs.declared.Place.TheVariants.{At, Refused}
+use Rattle.aec3_common.specs.Answers.{answer_case}
 use Rattle.aec3_common.specs.Refusal.{from_to, unless, accepted, bad_ring, bad_place, bad_offset}
 
 -- the most slots that a ring has
@@ -48,21 +47,17 @@ next_refusal size index = place_refusal size index accepted
 unfoldable pub offset_refusal : ℕ → ℕ → ℤ → ℕ
 offset_refusal size index offset = place_refusal size index (unless (offset_ok size offset) bad_offset accepted)
 
--- the case of an answer: number 0 has the place, any other number is a refusal
-abbrev pub place_case : ℕ → ℕ → Place
-place_case number place = cond (eqb number accepted) (At place) (Refused number)
+unfoldable pub next_answer : ℕ → ℕ → Result ℕ ℕ
+next_answer size index = answer_case (next_refusal size index) (next_place size index)
 
-unfoldable pub next_answer : ℕ → ℕ → Place
-next_answer size index = place_case (next_refusal size index) (next_place size index)
+unfoldable pub offset_answer : ℕ → ℕ → ℤ → Result ℕ ℕ
+offset_answer size index offset = answer_case (offset_refusal size index offset) (offset_place size index offset)
 
-unfoldable pub offset_answer : ℕ → ℕ → ℤ → Place
-offset_answer size index offset = place_case (offset_refusal size index offset) (offset_place size index offset)
+-- the answer's case read back: its number, and its place
+abbrev pub place_number : Result ℕ ℕ → ℕ
+place_number (Ok p) = accepted
+place_number (Err n) = n
 
--- and back: the number and the place of each case
-abbrev pub place_number : Place → ℕ
-place_number (At p) = accepted
-place_number (Refused n) = n
-
-abbrev pub place_value : Place → List ℕ
-place_value (At p) = p ∷ []
-place_value (Refused n) = []
+abbrev pub place_value : Result ℕ ℕ → List ℕ
+place_value (Ok p) = p ∷ []
+place_value (Err n) = []

@@ -3,43 +3,30 @@
 
 pub mod places;
 
-ghost use Rattle.std.specs.Prelude.{◌≡◌, nat_abs};
+ghost use Rattle.std.specs.Prelude.{◌≡◌};
+ghost use Rattle.aec3_common.specs.Answers.{number_of, numbered};
 ghost use Rattle.spectrum_buffer.specs.Ring.{slots_ok, next_refusal, offset_refusal, next_answer, offset_answer};
 
-use aec3_common::refusal::{ACCEPTED, BAD_OFFSET, BAD_PLACE, BAD_RING};
+use aec3_common::Refusal;
 use places::{next_place, offset_place};
 
 pub const MAX_SLOTS: usize = 32;
 
-#[derive(Clone, Copy)]
-pub enum Place {
-    At(usize),
-    Refused(u32),
-}
-
 // The place after index; 4 and 9 are turned away.
 #[tactic(auto, unfolding(crate::specs::Ring::next_answer))]
-pub fn inc_index(size: usize, index: usize) -> Place
-    ensures { result ≡ next_answer size index }
+pub fn inc_index(size: usize, index: usize) -> Result<usize, Refusal>
+    ensures { numbered result ≡ next_answer size index }
 {
-    let refused = next_refusal(size, index);
-    if refused == ACCEPTED {
-        Place::At(next_place(size, index))
-    } else {
-        Place::Refused(refused)
-    }
+    judge_place(size, index)?;
+    Ok(next_place(size, index))
 }
 
 // The place at an offset from index; 4, 9 and 8 are turned away.
-pub fn offset_index(size: usize, index: usize, offset: isize) -> Place
-    ensures { result ≡ offset_answer size index offset }
+pub fn offset_index(size: usize, index: usize, offset: isize) -> Result<usize, Refusal>
+    ensures { numbered result ≡ offset_answer size index offset }
 {
-    let refused = offset_refusal(size, index, offset);
-    if refused == ACCEPTED {
-        Place::At(offset_place(size, index, offset))
-    } else {
-        Place::Refused(refused)
-    }
+    judge_offset(size, index, offset)?;
+    Ok(offset_place(size, index, offset))
 }
 
 // Number 4, of the slots alone.
@@ -49,40 +36,28 @@ pub fn slots_ok(size: usize) -> bool
     (1 <= size) & (size <= MAX_SLOTS)
 }
 
+// The first of 4 and 9.
 #[tactic(auto, unfolding(crate::specs::Ring::next_refusal))]
-fn next_refusal(size: usize, index: usize) -> u32
-    ensures { result ≡ next_refusal size index }
+fn judge_place(size: usize, index: usize) -> Result<(), Refusal>
+    ensures { number_of result ≡ next_refusal size index }
 {
-    if slots_ok(size) {
-        if index < size { ACCEPTED } else { BAD_PLACE }
-    } else {
-        BAD_RING
+    if !slots_ok(size) {
+        return Err(Refusal::BadRing);
     }
+    if index >= size {
+        return Err(Refusal::BadPlace);
+    }
+    Ok(())
 }
 
+// The first of 4, 9 and 8.
 #[tactic(auto, unfolding(crate::specs::Ring::next_refusal, crate::specs::Ring::offset_refusal))]
-fn offset_refusal(size: usize, index: usize, offset: isize) -> u32
-    ensures { result ≡ offset_refusal size index offset }
+fn judge_offset(size: usize, index: usize, offset: isize) -> Result<(), Refusal>
+    ensures { number_of result ≡ offset_refusal size index offset }
 {
-    let refused = next_refusal(size, index);
-    if refused == ACCEPTED {
-        if unsigned_abs(offset) <= size {
-            ACCEPTED
-        } else {
-            BAD_OFFSET
-        }
-    } else {
-        refused
+    judge_place(size, index)?;
+    if offset.unsigned_abs() > size {
+        return Err(Refusal::BadOffset);
     }
-}
-
-// The size of x. The least integer has no negative of its own, so this takes x from -1 and adds the one back.
-fn unsigned_abs(x: isize) -> usize
-    ensures { result ≡ nat_abs x }
-{
-    if x < 0 {
-        (-1 - x) as usize + 1
-    } else {
-        x as usize
-    }
+    Ok(())
 }

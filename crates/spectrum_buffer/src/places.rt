@@ -8,10 +8,9 @@ ghost use Rattle.spectrum_buffer.specs.Ring.{next_place, non_negative, offset_pl
 pub fn next_place(size: usize, index: usize) -> usize
     ensures { result ≡ next_place size index }
 {
-    if index < size {
-        if index + 1 < size { index + 1 } else { 0 }
-    } else {
-        0
+    match index.checked_add(1) {
+        Some(next) if next < size => next,
+        _ => 0,
     }
 }
 

@@ -1,62 +1,77 @@
-// The blocks of a slice, one after the other.
-ghost use Rattle.std.specs.Prelude.{true, ◌≡◌, ◌+◌, ◌*◌, ◌≤◌, length};
-ghost use Rattle.speed.specs.Room.{Room};
+// The blocks that a driver lends, one behind the other, and the rounds over them.
+ghost use Rattle.std.specs.Prelude.{ℕ, ◌≤◌, ◌<◌};
 
-// How many blocks of a size lie whole among so many elements. Empty ones take no room.
-pub fn whole_blocks(elements: usize, size: usize) -> usize
-    ensures { result * size ≤ elements }
-{
-    if size == 0 {
-        usize::MAX
-    } else {
-        elements / size
-    }
+use aec3_common::Block;
+use aec3_common::settings::capture_channels_ok;
+
+// The first so many blocks of a slice, each of a size; none where it is shorter.
+pub fn first_blocks<T>(all: &[T], size: usize, blocks: usize) -> Option<&[T]> {
+    all.get(..size.checked_mul(blocks)?)
 }
 
-// The flags of one block.
-pub fn flags_of(flags: &[bool], block: usize, size: usize) -> &[bool]
-    requires { (block + 1) * size ≤ length flags.now }
-{
-    let from = block * size;
-    let to = from + size;
-    &flags[from..to]
+// Blocks of an ERLE estimator. Each has one flag for each channel, 65 render numbers, and 65 capture and 65 residual numbers for each
+// channel.
+#[derive(Clone, Copy, Debug)]
+pub struct Blocks<'a> {
+    num_capture_channels: usize,
+    flags: &'a [bool],
+    render: &'a [f32],
+    capture: &'a [f32],
+    residual: &'a [f32],
+    ghost some_channels: { 0 < num_capture_channels },
+    ghost few_channels: { num_capture_channels ≤ 4 },
 }
 
-// The spectra of one block.
-pub fn spectra_of(spectra: &[f32], block: usize, size: usize) -> &[f32]
-    requires { (block + 1) * size ≤ length spectra.now }
-{
-    let from = block * size;
-    let to = from + size;
-    &spectra[from..to]
-}
+impl<'a> Blocks<'a> {
+    // None where the channels are too few or too many, or a slice is too short for so many blocks. Its parameters are those of the C functions.
+    pub fn new(
+        num_capture_channels: usize,
+        flags: &'a [bool],
+        render: &'a [f32],
+        capture: &'a [f32],
+        residual: &'a [f32],
+        blocks: usize,
+    ) -> Option<Blocks<'a>> {
+        if !capture_channels_ok(num_capture_channels) {
+            return None;
+        }
+        let numbers = num_capture_channels * 65;
+        Some(Blocks {
+            num_capture_channels,
+            flags: first_blocks(flags, num_capture_channels, blocks)?,
+            render: first_blocks(render, 65, blocks)?,
+            capture: first_blocks(capture, numbers, blocks)?,
+            residual: first_blocks(residual, numbers, blocks)?,
+        })
+    }
 
-// Whether the blocks of an ERLE estimator lie in the slices. A block has one flag for each channel, 65 render numbers, and
-// 65 capture and 65 residual numbers for each channel.
-pub fn blocks_fit(
-    channels: usize,
-    flags: &[bool],
-    render: &[f32],
-    capture: &[f32],
-    residual: &[f32],
-    blocks: usize,
-) -> bool
-    ensures { result ≡ true → Room channels blocks (length flags.now) (length render.now) (length capture.now) (length residual.now) }
-{
-    if channels > 4 {
-        return false;
+    // What a step makes of an estimator, block by block, and that so many rounds. The step is told which block of the round it is.
+    pub fn run<E, F: Fn(E, usize, &Block) -> E>(&self, start: E, rounds: usize, step: F) -> E
+        requires { F.IsAlwaysCallable step }
+    {
+        let numbers = self.num_capture_channels * 65;
+        let mut estimator = start;
+        for _ in 0..rounds {
+            let powers = self
+                .capture
+                .chunks_exact(numbers)
+                .zip(self.residual.chunks_exact(numbers));
+            let lists = self
+                .flags
+                .chunks_exact(self.num_capture_channels)
+                .zip(self.render.chunks_exact(65))
+                .zip(powers);
+            for (index, ((converged_filters, x2), (y2, e2))) in lists.enumerate() {
+                let block = Block {
+                    num_capture_channels: self.num_capture_channels,
+                    converged_filters,
+                    x2,
+                    y2,
+                    e2,
+                };
+                estimator = step(estimator, index, &block);
+            }
+        }
+        estimator
     }
-    if blocks > whole_blocks(flags.len(), channels) {
-        return false;
-    }
-    if blocks > whole_blocks(render.len(), 65) {
-        return false;
-    }
-    if blocks > whole_blocks(capture.len(), channels * 65) {
-        return false;
-    }
-    if blocks > whole_blocks(residual.len(), channels * 65) {
-        return false;
-    }
-    true
 }

@@ -1,60 +1,8 @@
 // Updates of the ERL estimator.
-ghost use Rattle.std.specs.Prelude.{◌*◌, ◌≤◌, length};
-
-use crate::blocks::{flags_of, spectra_of, whole_blocks};
+use crate::blocks::first_blocks;
 use crate::figures::erl_sum;
-use erl_estimator::ErlEstimator;
-
-// All blocks once.
-fn one_round(
-    erl: ErlEstimator,
-    captures: usize,
-    renders: usize,
-    flags: &[bool],
-    render: &[f32],
-    capture: &[f32],
-    blocks: usize,
-) -> ErlEstimator
-    requires captures_bound { (captures ≤ 4) × (renders ≤ 2) }
-    requires captures_in_bounds { blocks * captures ≤ length flags.now }
-    requires renders_in_bounds { blocks * (renders * 65) ≤ length render.now }
-    requires captures_in_bounds_2 { blocks * (captures * 65) ≤ length capture.now }
-{
-    let mut erl = erl;
-    for block in 0..blocks {
-        let answer = erl.update(
-            captures,
-            renders,
-            flags_of(flags, block, captures),
-            spectra_of(render, block, renders * 65),
-            spectra_of(capture, block, captures * 65),
-        );
-        erl = answer.state;
-    }
-    erl
-}
-
-// All rounds.
-fn all_rounds(
-    captures: usize,
-    renders: usize,
-    flags: &[bool],
-    render: &[f32],
-    capture: &[f32],
-    blocks: usize,
-    rounds: usize,
-) -> ErlEstimator
-    requires captures_bound { (captures ≤ 4) × (renders ≤ 2) }
-    requires captures_in_bounds { blocks * captures ≤ length flags.now }
-    requires renders_in_bounds { blocks * (renders * 65) ≤ length render.now }
-    requires captures_in_bounds_2 { blocks * (captures * 65) ≤ length capture.now }
-{
-    let mut erl = ErlEstimator::new(0);
-    for _ in 0..rounds {
-        erl = one_round(erl, captures, renders, flags, render, capture, blocks);
-    }
-    erl
-}
+use aec3_common::settings::{MAX_CAPTURE_CHANNELS, MAX_RENDER_CHANNELS};
+use erl_estimator::{ErlBlock, ErlEstimator};
 
 // Runs an ERL estimator without startup over all blocks, in order, and that so many rounds. A block has one flag for
 // each capture channel, 65 numbers for each render channel, and 65 for each capture channel; blocks lie one after the
@@ -69,20 +17,38 @@ pub extern "C" fn speed_erl(
     blocks: usize,
     rounds: usize,
 ) -> f32 {
-    if captures > 4 {
+    if (captures > MAX_CAPTURE_CHANNELS) | (renders > MAX_RENDER_CHANNELS) {
         return 0.0;
     }
-    if renders > 2 {
+    let Some(flags) = first_blocks(flags, captures, blocks) else {
         return 0.0;
-    }
-    if blocks > whole_blocks(flags.len(), captures) {
+    };
+    let Some(render) = first_blocks(render, renders * 65, blocks) else {
         return 0.0;
-    }
-    if blocks > whole_blocks(render.len(), renders * 65) {
+    };
+    let Some(capture) = first_blocks(capture, captures * 65, blocks) else {
         return 0.0;
+    };
+    let mut erl = ErlEstimator::new(0);
+    // Without a channel every update is turned away.
+    if (captures == 0) | (renders == 0) {
+        return erl_sum(&erl);
     }
-    if blocks > whole_blocks(capture.len(), captures * 65) {
-        return 0.0;
+    for _ in 0..rounds {
+        let lists = flags
+            .chunks_exact(captures)
+            .zip(render.chunks_exact(renders * 65))
+            .zip(capture.chunks_exact(captures * 65));
+        for ((converged_filters, render_spectra), capture_spectra) in lists {
+            let block = ErlBlock {
+                num_capture_channels: captures,
+                num_render_channels: renders,
+                converged_filters,
+                render_spectra,
+                capture_spectra,
+            };
+            erl = erl.update(&block).state;
+        }
     }
-    erl_sum(all_rounds(captures, renders, flags, render, capture, blocks, rounds))
+    erl_sum(&erl)
 }

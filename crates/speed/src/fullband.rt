@@ -1,74 +1,11 @@
 // Updates of the fullband estimator.
-ghost use Rattle.std.specs.Prelude.{length};
-ghost use Rattle.speed.specs.Room.{Room};
-
-use crate::blocks::{blocks_fit, flags_of, spectra_of};
+use crate::blocks::Blocks;
 use crate::figures::fullband_sum;
 use fullband_erle_estimator::{FullBandErleEstimator, FullBandSettings};
 
-// All blocks once.
-fn one_round(
-    estimator: FullBandErleEstimator,
-    channels: usize,
-    flags: &[bool],
-    render: &[f32],
-    capture: &[f32],
-    residual: &[f32],
-    blocks: usize,
-) -> FullBandErleEstimator
-    requires { Room channels blocks (length flags.now) (length render.now) (length capture.now) (length residual.now) }
-{
-    let mut estimator = estimator;
-    for block in 0..blocks {
-        let answer = estimator.update(
-            channels,
-            flags_of(flags, block, channels),
-            spectra_of(render, block, 65),
-            spectra_of(capture, block, channels * 65),
-            spectra_of(residual, block, channels * 65),
-        );
-        estimator = answer.state;
-    }
-    estimator
-}
-
-// What the rounds begin with.
-fn started(channels: usize) -> FullBandErleEstimator {
-    let answer = FullBandErleEstimator::new(FullBandSettings {
-        min: 1.0,
-        max_l: 4.0,
-        max_h: 1.5,
-        clamp_quality_estimate_to_zero: true,
-        clamp_quality_estimate_to_one: true,
-        num_capture_channels: channels,
-    });
-    answer.state
-}
-
-// All rounds.
-fn all_rounds(
-    channels: usize,
-    flags: &[bool],
-    render: &[f32],
-    capture: &[f32],
-    residual: &[f32],
-    blocks: usize,
-    rounds: usize,
-) -> FullBandErleEstimator
-    requires { Room channels blocks (length flags.now) (length render.now) (length capture.now) (length residual.now) }
-{
-    let mut estimator = started(channels);
-    for _ in 0..rounds {
-        estimator = one_round(
-            estimator, channels, flags, render, capture, residual, blocks,
-        );
-    }
-    estimator
-}
-
 // Runs a fullband estimator over all blocks, in order, and that so many rounds. A block has one flag for each channel,
 // 65 render numbers, and 65 capture and 65 residual numbers for each channel; blocks lie one after the other. Answers
-// the sum of the channels' figures and quality estimates; 0 where the channels are too many, or a slice is too short
+// the sum of the channels' figures and quality estimates; 0 where the channels are too few or too many, or a slice is too short
 // for the blocks.
 #[unsafe(no_mangle)]
 pub extern "C" fn speed_fullband(
@@ -80,9 +17,21 @@ pub extern "C" fn speed_fullband(
     blocks: usize,
     rounds: usize,
 ) -> f32 {
-    if !blocks_fit(channels, flags, render, capture, residual, blocks) {
+    let Some(lists) = Blocks::new(channels, flags, render, capture, residual, blocks) else {
         return 0.0;
-    }
-    let estimator = all_rounds(channels, flags, render, capture, residual, blocks, rounds);
-    fullband_sum(estimator, channels)
+    };
+    let settings = FullBandSettings {
+        min: 1.0,
+        max_l: 4.0,
+        max_h: 1.5,
+        clamp_quality_estimate_to_zero: true,
+        clamp_quality_estimate_to_one: true,
+        num_capture_channels: channels,
+    };
+    let Ok(start) = FullBandErleEstimator::new(settings) else {
+        return 0.0;
+    };
+    fullband_sum(&lists.run(start, rounds, |estimator, _, block| {
+        estimator.update(block).state
+    }))
 }

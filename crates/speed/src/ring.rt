@@ -1,38 +1,45 @@
 // The ring and the responses that all blocks of a run share.
-ghost use Rattle.std.specs.Prelude.{true, ◌≡◌, ◌≤◌, length};
-ghost use Rattle.speed.specs.Room.{Shared};
+use section_echoes::{FilterResponses, RenderBuffer, RenderRing};
 
-use signal_dependent_erle_estimator::RenderRing;
-
-// The ring has so many slots of one render channel, and so many numbers.
+// The ring has so many slots of one render channel.
 const RING_SLOTS: usize = 20;
 
-pub const RING_LENGTH: usize = 1300;
-
-// The filter of each channel has so many blocks, and its responses so many numbers.
+// The filter of each channel has so many blocks.
 pub const FILTER_LENGTH_BLOCKS: usize = 13;
 
-pub const RESPONSES_LENGTH: usize = 845;
+const RESPONSE_BLOCKS: [usize; 4] = [FILTER_LENGTH_BLOCKS; 4];
 
-// The ring as a block reads it: one place further with each block.
-pub fn ring_of(block: usize) -> RenderRing {
-    RenderRing {
-        slots: RING_SLOTS,
-        channels: 1,
-        position: block % RING_SLOTS,
-    }
+#[derive(Clone, Copy, Debug)]
+pub struct Shared<'a> {
+    spectra: &'a [f32],
+    responses: FilterResponses<'a>,
 }
 
-// Whether the ring, and the responses of so many channels, are there in full.
-pub fn ring_fits(channels: usize, ring: &[f32], responses: &[f32]) -> bool
-    requires { channels ≤ 4 }
-    ensures { result ≡ true → Shared channels (length ring.now) (length responses.now) }
-{
-    if ring.len() < RING_LENGTH {
-        return false;
+impl<'a> Shared<'a> {
+    // The front of what is lent; none where it is too short for so many channels.
+    pub fn new(channels: usize, ring: &'a [f32], responses: &'a [f32]) -> Option<Shared<'a>> {
+        Some(Shared {
+            spectra: ring.get(..RING_SLOTS * 65)?,
+            responses: FilterResponses {
+                blocks: RESPONSE_BLOCKS.get(..channels)?,
+                responses: responses.get(..channels.checked_mul(FILTER_LENGTH_BLOCKS * 65)?)?,
+            },
+        })
     }
-    if responses.len() < channels * RESPONSES_LENGTH {
-        return false;
+
+    pub fn responses(&self) -> FilterResponses<'a> {
+        self.responses
     }
-    true
+
+    // The ring as a block reads it: one place further with each block.
+    pub fn buffer(&self, block: usize) -> RenderBuffer<'a> {
+        RenderBuffer {
+            ring: RenderRing {
+                slots: RING_SLOTS,
+                channels: 1,
+                position: block % RING_SLOTS,
+            },
+            spectra: self.spectra,
+        }
+    }
 }

@@ -1,94 +1,16 @@
 // Updates of the signal-dependent estimator.
-ghost use Rattle.std.specs.Prelude.{length};
-ghost use Rattle.speed.specs.Room.{Room};
-
-use crate::blocks::{blocks_fit, flags_of, spectra_of};
+use crate::blocks::{Blocks, first_blocks};
 use crate::figures::signal_dependent_sum;
-use crate::ring::{FILTER_LENGTH_BLOCKS, RESPONSES_LENGTH, RING_LENGTH, ring_fits, ring_of};
-use signal_dependent_erle_estimator::{SignalDependentErleEstimator, SignalDependentSettings};
+use crate::ring::{FILTER_LENGTH_BLOCKS, Shared};
+use signal_dependent_erle_estimator::{
+    Averages, SignalDependentErleEstimator, SignalDependentSettings,
+};
 
-// All blocks once.
-fn one_round(
-    estimator: SignalDependentErleEstimator,
-    channels: usize,
-    flags: &[bool],
-    render: &[f32],
-    capture: &[f32],
-    residual: &[f32],
-    ring: &[f32],
-    responses: &[f32],
-    averages: &[f32],
-    blocks: usize,
-) -> SignalDependentErleEstimator
-    requires { Room channels blocks (length flags.now) (length render.now) (length capture.now) (length residual.now) }
-{
-    let response_blocks = [FILTER_LENGTH_BLOCKS; 4];
-    let mut estimator = estimator;
-    for block in 0..blocks {
-        let answer = estimator.update(
-            channels,
-            ring_of(block),
-            ring,
-            &response_blocks[0..channels],
-            responses,
-            spectra_of(render, block, 65),
-            spectra_of(capture, block, channels * 65),
-            spectra_of(residual, block, channels * 65),
-            averages,
-            averages,
-            flags_of(flags, block, channels),
-        );
-        estimator = answer.state;
-    }
-    estimator
-}
-
-// What the rounds begin with.
-fn started(channels: usize, sections: usize) -> SignalDependentErleEstimator {
-    let answer = SignalDependentErleEstimator::new(SignalDependentSettings {
-        min: 1.0,
-        max_l: 4.0,
-        max_h: 1.5,
-        onset_detection: true,
-        num_capture_channels: channels,
-        num_sections: sections,
-        filter_length_blocks: FILTER_LENGTH_BLOCKS,
-        delay_headroom_samples: 0,
-    });
-    answer.state
-}
-
-// All rounds.
-fn all_rounds(
-    estimator: SignalDependentErleEstimator,
-    channels: usize,
-    flags: &[bool],
-    render: &[f32],
-    capture: &[f32],
-    residual: &[f32],
-    ring: &[f32],
-    responses: &[f32],
-    averages: &[f32],
-    blocks: usize,
-    rounds: usize,
-) -> SignalDependentErleEstimator
-    requires { Room channels blocks (length flags.now) (length render.now) (length capture.now) (length residual.now) }
-{
-    let mut estimator = estimator;
-    for _ in 0..rounds {
-        estimator = one_round(
-            estimator, channels, flags, render, capture, residual, ring, responses, averages,
-            blocks,
-        );
-    }
-    estimator
-}
-
-// Runs a signal-dependent estimator over all blocks, in order, and that so many rounds. A block has one flag for each
-// channel, 65 render numbers, and 65 capture and 65 residual numbers for each channel; blocks lie one after the other. All
-// blocks share the ring, of 20 slots, from which block b reads at b modulo 20, the responses, 13 blocks for each channel,
-// and the averages, 65 numbers for each channel, which serve as both streams. Answers the sum of the plain and the
-// compensated figures; 0 where the channels are too many, or a slice is too short.
+// Runs a signal-dependent estimator over all blocks, in order, and that so many rounds. A block has one flag for each channel, 65 render
+// numbers, and 65 capture and 65 residual numbers for each channel; blocks lie one after the other. All blocks share the ring, of 20
+// slots, from which block b reads at b modulo 20, the responses, 13 blocks for each channel, and the averages, 65 numbers for each, which
+// are lent as both streams of the subband estimator. Answers the sum of the plain and the compensated figures of each channel; 0 where
+// the channels are too few or too many, or a slice is too short.
 #[unsafe(no_mangle)]
 pub extern "C" fn speed_signal_dependent(
     channels: usize,
@@ -103,29 +25,35 @@ pub extern "C" fn speed_signal_dependent(
     blocks: usize,
     rounds: usize,
 ) -> f32 {
-    if !blocks_fit(channels, flags, render, capture, residual, blocks) {
+    let Some(lists) = Blocks::new(channels, flags, render, capture, residual, blocks) else {
         return 0.0;
-    }
-    if !ring_fits(channels, ring, responses) {
+    };
+    let Some(shared) = Shared::new(channels, ring, responses) else {
         return 0.0;
-    }
-    let responses_end = channels * RESPONSES_LENGTH;
-    let averages_end = channels * 65;
-    if averages.len() < averages_end {
+    };
+    let Some(stream) = first_blocks(averages, 65, channels) else {
         return 0.0;
-    }
-    let estimator = all_rounds(
-        started(channels, sections),
-        channels,
-        flags,
-        render,
-        capture,
-        residual,
-        &ring[0..RING_LENGTH],
-        &responses[0..responses_end],
-        &averages[0..averages_end],
-        blocks,
-        rounds,
-    );
-    signal_dependent_sum(estimator, channels)
+    };
+    let averages = Averages {
+        plain: stream,
+        compensated: stream,
+    };
+    let settings = SignalDependentSettings {
+        min: 1.0,
+        max_l: 4.0,
+        max_h: 1.5,
+        onset_detection: true,
+        num_capture_channels: channels,
+        num_sections: sections,
+        filter_length_blocks: FILTER_LENGTH_BLOCKS,
+        delay_headroom_samples: 0,
+    };
+    let Ok(start) = SignalDependentErleEstimator::new(settings) else {
+        return 0.0;
+    };
+    signal_dependent_sum(&lists.run(start, rounds, |estimator, index, block| {
+        estimator
+            .update(&shared.buffer(index), &shared.responses(), block, &averages)
+            .state
+    }))
 }

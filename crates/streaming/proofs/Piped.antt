@@ -1,7 +1,7 @@
 -- What the loop keeps: the text that went out, and what is ahead of the bytes that are held and of those that are yet to be read, are the text of all.
 use Rattle.std.proofs.Common.{◌≡◌, ℕ, ◌+◌, ◌-◌, ◌≤◌, List, [], ◌++◌, length, take, drop, refl, sym, ap, ◌∙◌, arith, Bool, true, false, append_assoc, append-nil}
 use mathlib.Core.Bool.{false≢true}
-use Rattle.std.specs.Prelude.{Option, Some, None, IfSome}
+use Rattle.std.specs.Prelude.{Option, Some, None, IfSome, Result, Ok, Err, IfErr}
 use Rattle.std.specs.Io.KnownBytes.{Appends, Consumes, IsAtEnd, Keeps}
 use Rattle.std.proofs.KnownBytes.{Appends-trans, Appends-nil}
 use lib.ListN.{length-drop}
@@ -43,6 +43,11 @@ kept-some (Some x) left keeps = ap Some keeps
 if-known : (o : Option (List ℕ)) (P : List ℕ → Type 0) → ((bytes : List ℕ) → o ≡ Some bytes → P bytes) → IfSome o P
 if-known None P h = tt
 if-known (Some bytes) P h = h bytes refl
+
+-- what holds of each failure of a kind, where a run fails
+pub if-failed : {A E : Type 0} {P : Type 0} (read : E) (r : Result A E) → P → IfErr r (λ e. e ≡ read → P)
+if-failed read (Ok a) h = tt
+if-failed read (Err e) h = λ is. h
 
 module _
     {reader_then reader_now writer_then writer_now : Option (List ℕ)} (writer_next : Option (List ℕ)) {whole : List ℕ → List ℕ} {held : List ℕ} {ended : Bool}

@@ -1,8 +1,10 @@
 // What ends a run before its time, and how it is told.
+use std::error::Error;
+use std::fmt;
 use std::io::Write;
 
 // A read or a write failed; a table has no room for what has to be held in one; or the input did not end.
-#[derive(Clone, Copy)]
+#[derive(Clone, Copy, Debug, PartialEq, Eq)]
 pub enum Failure {
     Read,
     Write,
@@ -10,19 +12,22 @@ pub enum Failure {
     Endless,
 }
 
-// What failed, as the end of a line.
-fn words(failure: Failure) -> &'static [u8] {
-    match failure {
-        Failure::Read => b": standard input cannot be read\n",
-        Failure::Write => b": standard output cannot be written\n",
-        Failure::NoRoom => b": a table has no room for a record or a line\n",
-        Failure::Endless => b": the input does not end\n",
+impl fmt::Display for Failure {
+    fn fmt<W: fmt::Write>(&self, f: &mut fmt::Formatter<W>) -> fmt::Result {
+        f.write_str(match self {
+            Failure::Read => "standard input cannot be read",
+            Failure::Write => "standard output cannot be written",
+            Failure::NoRoom => "a table has no room for a record or a line",
+            Failure::Endless => "the input does not end",
+        })
     }
 }
+
+impl Error for Failure {}
 
 // One line: which program, and what failed. That this line cannot be written can be told nowhere.
 pub fn tell<W: Write>(writer: &mut W, program: &[u8], failure: Failure) {
     if writer.write_all(program).is_ok() {
-        let _ = writer.write_all(words(failure));
+        let _ = writeln!(writer, ": {failure}");
     }
 }

@@ -1,14 +1,15 @@
 // Bytes that are held between readings, and text that goes out.
-ghost use Rattle.std.specs.Prelude.{◌≡◌, ◌≢◌, ◌-◌, ◌≤◌, ◌<◌, length, take, drop, true, IfOk, IfErr, OnErr};
+ghost use Rattle.std.specs.Prelude.{◌≡◌, ◌≢◌, ◌-◌, ◌≤◌, ◌<◌, length, take, drop, IfOk, IfErr, OnOk, OnErr};
 ghost use Rattle.std.specs.Io.KnownBytes.{Appends, Keeps};
-ghost use Rattle.streaming.specs.declared.failure.Failure.TheVariants.{NoRoom};
+ghost use Rattle.streaming.specs.declared.failure.Failure.TheVariants.{NoRoom, Write as Failure·Write};
 ghost use Rattle.streaming.specs.Feeding.{ReadOn};
 
 use crate::failure::Failure;
 use std::io::{ErrorKind, Read, Write};
 
-// How many bytes are held at the front of a table, and whether the input ends with them.
-#[derive(Clone, Copy)]
+// How many bytes are held at the front of a table, and whether the input ends with them. Some may be held at its end too, so that `to` is no
+// Option.
+#[derive(Clone, Copy, Debug, PartialEq, Eq)]
 pub struct Held {
     pub to: usize,
     pub ended: bool,
@@ -48,10 +49,11 @@ pub fn read_on<R: Read>(
     }
 }
 
-// Writes the text before a place out; false where that fails.
-pub fn write_out<W: Write>(writer: &mut W, out: &[u8], at: usize) -> bool
+// Writes the text before a place out.
+pub fn write_out<W: Write>(writer: &mut W, out: &[u8], at: usize) -> Result<(), Failure>
     requires { at ≤ length out.now }
-    ensures { result ≡ true → Appends (W.contents writer.old) (W.contents writer.new) (take at out.now) }
+    ensures written { OnOk result (Appends (W.contents writer.old) (W.contents writer.new) (take at out.now)) }
+    ensures failed { IfErr result (λ e. e ≡ Failure·Write) }
 {
-    writer.write_all(&out[..at]).is_ok()
+    writer.write_all(&out[..at]).map_err(|_| Failure::Write)
 }

@@ -9,7 +9,7 @@ use crate::reading::{read_on, write_out};
 use std::io::{Read, Write};
 
 // Why feeding stopped: more bytes are wanted, or more room; or nothing is to be written any more, whatever follows.
-#[derive(Clone, Copy)]
+#[derive(Clone, Copy, Debug, PartialEq, Eq)]
 pub enum Stop {
     WantsBytes,
     WantsRoom,
@@ -17,7 +17,7 @@ pub enum Stop {
 }
 
 // How many bytes are done with, the place where the next text goes, and why it stopped.
-#[derive(Clone, Copy)]
+#[derive(Clone, Copy, Debug, PartialEq, Eq)]
 pub struct Fed {
     pub used: usize,
     pub at: usize,
@@ -47,7 +47,7 @@ pub trait Transducer {
 }
 
 // Writes the text of all that a reader gives. The tables are lent: one for the bytes that are read and not done with, one for the text
-// that is not written out yet. The turns are counted down from a number that no run uses up, since nothing says that an input ends.
+// that is not written out yet. The turns are a number that no run uses up, since nothing says that an input ends.
 pub fn run<T: Transducer + Drop, R: Read, W: Write>(
     reader: &mut R,
     writer: &mut W,
@@ -62,13 +62,9 @@ pub fn run<T: Transducer + Drop, R: Read, W: Write>(
     let mut from = 0;
     let mut to = 0;
     let mut ended = false;
-    let mut turns = u64::MAX;
-    while turns > 0 {
-        turns -= 1;
+    for _ in 0..u64::MAX {
         let fed = job.feed(&input[from..to], ended, out, 0);
-        if !write_out(writer, out, fed.at) {
-            return Err(Failure::Write);
-        }
+        write_out(writer, out, fed.at)?;
         from += fed.used;
         match fed.stop {
             Stop::Done => return Ok(()),
@@ -81,14 +77,10 @@ pub fn run<T: Transducer + Drop, R: Read, W: Write>(
                 if ended {
                     return Ok(());
                 }
-                match read_on(reader, input, from, to) {
-                    Ok(held) => {
-                        from = 0;
-                        to = held.to;
-                        ended = held.ended;
-                    }
-                    Err(e) => return Err(e),
-                }
+                let held = read_on(reader, input, from, to)?;
+                from = 0;
+                to = held.to;
+                ended = held.ended;
             }
         }
     }

@@ -7,14 +7,14 @@ use lib.Dec.{ltb, eqb}
 use lib.IntN.{ℤ, pos}
 use lib.Ieee.{Float, nan}
 use lib.ListN.{length, get_or}
+use Rattle.aec3_common.specs.declared.settings.ErleLimits.{ErleLimits}
 use Rattle.aec3_common.specs.Lists.{tab}
 use Rattle.aec3_common.specs.Settings.{greatest_erle}
 use Rattle.aec3_common.specs.Spectra.{inner_band, shown_band, ends_copied}
 use Rattle.aec3_common.proofs.Bands.{ends-are, shown-below}
-use Rattle.aec3_common.proofs.Choices.{and-true, and-false, cond_has}
+use Rattle.aec3_common.proofs.Choices.{and-true, and-false}
 use Rattle.aec3_common.proofs.Tables.{length-tab, get_or-tab, tab-same}
 use Rattle.filter_sections.specs.Subbands.{max_erle}
-use Rattle.erle_bands.specs.declared.streams.Limits.{Limits}
 use Rattle.erle_bands.specs.Band.{Sums, added, has_ratio, ratio, learns, hold_falls, stream_moved, Streams, streams_learnt, Onset, onset_learnt, hold_less, compensated_beside, waits_beside, one_block_less}
 use Rattle.erle_bands.specs.Steps.{sums_with, lows_with, ratios_of, all_streams_moved, all_waits_learnt, all_holds_learnt, all_holds_less, all_compensated_beside, all_waits_beside}
 use Rattle.erle_bands.proofs.Bands.{bands-stay}
@@ -22,7 +22,7 @@ use Rattle.subband_erle_estimator.specs.declared.settings.SubbandSettings.{Subba
 use Rattle.subband_erle_estimator.specs.declared.channel.SubbandChannel.{SubbandChannel}
 use Rattle.subband_erle_estimator.specs.Channel.{sums_at, streams_at, onset_at, channel_from, compensated_shown, Block, unconverged_block, max_at, streams_learnt_at, onset_learnt_at, all_points, points_with, points_after, sums_after, is_sixth, streams_after, onset_after, channel_after}
 use Rattle.subband_erle_estimator.specs.Steps.{limits_of, uncapped_limits, learnt_by}
-use Rattle.subband_erle_estimator.proofs.Parts.{Long, long-from, sums-from, streams-from, onset-from, same_parts, own-parts}
+use Rattle.subband_erle_estimator.proofs.Parts.{Long, sums-from, streams-from, onset-from, same_parts, own-parts}
 
 -- a field of a choice is a choice of fields
 field : {A B : Type 0} (f : A → B) (t : Bool) (x y : A) → cond t (f x) (f y) ≡ f (cond t x y)
@@ -107,7 +107,7 @@ same-maxima v k = go (ltb k 32)
 module _ (s : SubbandSettings) (c : SubbandChannel) (l : Long c) {news : List Float} (n : news ≡ ratios_of c.y2 c.e2) where
   -- a moved stream in a band
   stream_at :
-      (g : Limits) {new : List Float} (old : List Float) → new ≡ all_streams_moved g news c.e2 c.low_render_energy old → (k : ℕ) → k < 65
+      (g : ErleLimits) {new : List Float} (old : List Float) → new ≡ all_streams_moved g news c.e2 c.low_render_energy old → (k : ℕ) → k < 65
       → get_or new k nan
       ≡ cond (learns k (sums_at c k).residual)
       (stream_moved g.min (max_erle g.max_l g.max_h k) (ratio (sums_at c k).capture (sums_at c k).residual) (sums_at c k).low (get_or old k nan))
@@ -435,10 +435,9 @@ module _ (s : SubbandSettings) (x y e : List Float) (c : SubbandChannel) where
       go true six = six-learned six
       go false few = few-learned few
 
-  pub converged-long : Long (converged_by x y e c s)
-  unfolding converged_by learnt_by heard_by
-  converged-long = cond_has Long (eqb (points_with c.num_points) all_points) (λ six. long-from _ _ _ _) (λ few. long-from _ _ _ _)
-
-  pub after-converged : lowered_by s (converged_by x y e c s) ≡ channel_after s (record { converged = true; render = x; capture = y; residual = e }) c
+  -- then the hold falls, as in a block in which it stands unconverged
+  pub after-converged :
+      channel_after s unconverged_block (converged_by x y e c s)
+      ≡ channel_after s (record { converged = true; render = x; capture = y; residual = e }) c
   unfolding block
-  after-converged = after-learned s block c (converged_by x y e c s) converged-learned
+  after-converged = sym (after-unconverged s (converged_by x y e c s)) ∙ after-learned s block c (converged_by x y e c s) converged-learned

@@ -17,7 +17,7 @@ use Rattle.filter_sections.proofs.Limits.{AllInOrder, all-in-order}
 use Rattle.subband_erle_estimator.specs.declared.settings.SubbandSettings.{SubbandSettings}
 use Rattle.subband_erle_estimator.specs.declared.SubbandErleEstimator.{SubbandErleEstimator}
 use Rattle.subband_erle_estimator.specs.Channel.{fresh, channel_after}
-use Rattle.subband_erle_estimator.specs.Subband.{settings_refusal, state_ok, update_refusal, state_refusal, started, start_answer, reset_answer, no_channel, channel_at, block_of, updated, update_answer}
+use Rattle.subband_erle_estimator.specs.Subband.{settings_refusal, state_ok, update_refusal, state_refusal, started, reset_answer, no_channel, channel_at, block_of, updated, update_answer}
 use Rattle.subband_erle_estimator.specs.Resting.{answer, run}
 use Rattle.subband_erle_estimator.proofs.Sums.{block-ok, state-ok}
 use Rattle.subband_erle_estimator.proofs.Channels.{ChannelKept, fresh_kept, after_kept}
@@ -104,11 +104,6 @@ module _ (g : SubbandSettings) (ok : SettingsOk g) where
   pub run-kept : (calls : List Call) (s : SubbandErleEstimator) → Kept g s → Kept g (run s calls)
   unfolding run
   run-kept = run-keeps (Kept g) (λ s c. (answer s c).state) answer-kept
-
--- an accepted start leaves the state that its settings give
-pub start-answer-kept : (g : SubbandSettings) → SettingsOk g → (start_answer g).refused ≡ accepted → Kept g (start_answer g).state
-unfolding start_answer
-start-answer-kept g ok e = rw e (started-kept g ok)
 
 -- number 20 lets such a state pass
 pub kept-ok : {g : SubbandSettings} (s : SubbandErleEstimator) → settings_refusal g ≡ accepted → Kept g s → state_ok s ≡ true

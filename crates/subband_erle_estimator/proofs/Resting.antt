@@ -7,7 +7,7 @@ use borrow.Author.Tests.{eqb-true, not-true}
 use lib.Dec.{eqb}
 use lib.ListN.{length, get_or}
 use Rattle.aec3_common.specs.Calls.{Call, update, reset, run_by}
-use Rattle.aec3_common.specs.Lists.{every}
+use Rattle.std.specs.List.{list_all}
 use Rattle.aec3_common.specs.Refusal.{accepted}
 use Rattle.aec3_common.proofs.Calls.{run-append}
 use Rattle.aec3_common.proofs.Choices.{and_left, and_right}
@@ -16,10 +16,10 @@ use Rattle.erle_bands.specs.Band.{Streams}
 use Rattle.erle_bands.proofs.Rest.{resting-start}
 use Rattle.subband_erle_estimator.specs.declared.settings.SubbandSettings.{SubbandSettings}
 use Rattle.subband_erle_estimator.specs.declared.SubbandErleEstimator.{SubbandErleEstimator}
-use Rattle.subband_erle_estimator.specs.Subband.{start_answer, reset_answer, update_answer, channel_at, block_of}
+use Rattle.subband_erle_estimator.specs.Subband.{settings_refusal, started, reset_answer, update_answer, channel_at, block_of}
 use Rattle.subband_erle_estimator.specs.Resting.{answer, run, accepted_of, unconverged, AtRest, RangeAndRest}
 use Rattle.subband_erle_estimator.proofs.Quiet.{ChannelResting, after-resting, rest-compensated, rest-waits}
-use Rattle.subband_erle_estimator.proofs.Calls.{SettingsOk, settings-ok, Kept, start-answer-kept, run-kept, passed-update, updated-channel, updated-kept}
+use Rattle.subband_erle_estimator.proofs.Calls.{SettingsOk, settings-ok, Kept, started-kept, run-kept, passed-update, updated-channel, updated-kept}
 
 -- a refused call passes on the state that it got
 refused-stays : (s : SubbandErleEstimator) (c : Call) → eqb (answer s c).refused accepted ≡ false → (answer s c).state ≡ s
@@ -60,9 +60,9 @@ module _ (g : SubbandSettings) (ok : SettingsOk g) (on : g.onset_detection ≡ t
 
   -- and so a list of calls whose accepted ones are such updates
   run-resting :
-      (cs : List Call) {before : SubbandErleEstimator} (s : SubbandErleEstimator) → every (unconverged ch) (accepted_of s cs) ≡ true
+      (cs : List Call) {before : SubbandErleEstimator} (s : SubbandErleEstimator) → list_all (unconverged ch) (accepted_of s cs) ≡ true
       → StateResting g ch (length (accepted_of s cs)) before s → StateResting g ch 0 before (run s cs)
-  unfolding accepted_of run run_by every
+  unfolding accepted_of run run_by
   run-resting [] s quiet resting = resting
   run-resting (c ∷ cs) {before} s quiet resting =
       go (eqb (answer s c).refused accepted) refl quiet resting (λ still more. run-resting cs (answer s c).state still more)
@@ -72,33 +72,32 @@ module _ (g : SubbandSettings) (ok : SettingsOk g) (on : g.onset_detection ≡ t
 
       Later : Type 0
       Later =
-          every (unconverged ch) others ≡ true → StateResting g ch (length others) before (answer s c).state
+          list_all (unconverged ch) others ≡ true → StateResting g ch (length others) before (answer s c).state
           → StateResting g ch 0 before (run (answer s c).state cs)
 
       go :
           (t : Bool) → eqb (answer s c).refused accepted ≡ t
-          → every (unconverged ch) (cond t (c ∷ others) others) ≡ true
+          → list_all (unconverged ch) (cond t (c ∷ others) others) ≡ true
           → StateResting g ch (length (cond t (c ∷ others) others)) before s
           → Later → StateResting g ch 0 before (run (answer s c).state cs)
       go true e quiet resting later =
-          later (and_right (unconverged ch c) (every (unconverged ch) others) quiet)
-          (call-resting s c (eqb-true (answer s c).refused accepted e) (and_left (unconverged ch c) (every (unconverged ch) others) quiet) resting)
+          later (and_right (unconverged ch c) (list_all (unconverged ch) others) quiet)
+          (call-resting s c (eqb-true (answer s c).refused accepted e) (and_left (unconverged ch c) (list_all (unconverged ch) others) quiet) resting)
       go false e quiet resting later =
           later quiet (subst (StateResting g ch (length others) before) (sym (refused-stays s c e)) resting)
 
 -- ---- the claim
 
-module _ (g : SubbandSettings) (in_binary32 : InBinary32 g.min g.max_l g.max_h) (e : (start_answer g).refused ≡ accepted) where
+module _ (g : SubbandSettings) (in_binary32 : InBinary32 g.min g.max_l g.max_h) (e : settings_refusal g ≡ accepted) where
   start : SubbandErleEstimator
-  start = (start_answer g).state
+  start = started g
 
   ok : SettingsOk g
-  unfolding start_answer
   ok = settings-ok g in_binary32 e
 
   first : Kept g start
   unfolding start
-  first = start-answer-kept g ok e
+  first = started-kept g ok
 
   -- after 500 updates in which a channel stands unconverged it is at rest
   at_rest :

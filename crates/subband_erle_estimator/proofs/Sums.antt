@@ -13,9 +13,9 @@ use lib.ListN.{length, get_or}
 use Rattle.aec3_common.specs.Binary32.{greatest_value, greatest_sum, within, values_ok, sums_ok}
 use Rattle.aec3_common.specs.Refusal.{accepted}
 use Rattle.aec3_common.specs.Spectra.{part}
-use Rattle.aec3_common.proofs.Bands.{part_length, part-every}
+use Rattle.aec3_common.proofs.Bands.{part_length, part-list_all}
 use Rattle.aec3_common.proofs.Calls.{UpdateOk}
-use Rattle.aec3_common.proofs.Every.{every-at, every-by, every_first}
+use Rattle.aec3_common.proofs.Every.{list_all-at, list_all-by, list_all_first}
 use Rattle.aec3_common.proofs.Numbers.{UpTo, Value, no-sum, up-to-within, value-within}
 use Rattle.aec3_common.proofs.Tables.{length-tab}
 use Rattle.erle_bands.specs.Band.{Sums, fresh_sums, added, Streams, fresh_streams, Onset, fresh_onset}
@@ -92,7 +92,7 @@ module _ (g : SubbandSettings) (b : Block) (c : SubbandChannel) (ok : BlockOk b)
 -- number 20 lets the sums of up to six points pass
 sums-ok : (n : ℕ) (xs : List Float) → n ≤ 6 → length xs ≡ 65 → ((k : ℕ) → k < 65 → UpTo (n * 2 ^ 100) (get_or xs k nan)) → sums_ok xs ≡ true
 sums-ok n xs few long each =
-    every-by (within greatest_sum) xs nan
+    list_all-by (within greatest_sum) xs nan
     (λ k h. up-to-within (each k (omega arith)) (le_trans (mul-le-mul_right (2 ^ 100) few) (lit≤ tt)))
 
 channel-ok : (c : SubbandChannel) → ChannelSums c → channel_ok c ≡ true
@@ -113,7 +113,7 @@ values-at :
     → (ch k : ℕ) → ch < n → k < 65 → Value (2 ^ 100) (get_or (part xs ch) k nan)
 values-at n xs long ok ch k h l =
     value-within (get_or (part xs ch) k nan)
-    (every-at (within greatest_value) (part xs ch) nan k (part-every (within greatest_value) xs ch ok) (omega (arith, part_length xs ch (omega arith))))
+    (list_all-at (within greatest_value) (part xs ch) nan k (part-list_all (within greatest_value) xs ch ok) (omega (arith, part_length xs ch (omega arith))))
 
 pub block-ok :
     {ok : Bool} {n : ℕ} {converged : List Bool} {render capture residual : List Float} → UpdateOk ok n converged render capture residual
@@ -131,5 +131,5 @@ pub state-ok :
 unfolding state_ok
 state-ok s passed sums =
     rw passed
-    (every_first channel_ok s.settings.num_capture_channels s.channels no_channel
+    (list_all_first channel_ok s.settings.num_capture_channels s.channels no_channel
     (λ ch h. channel-ok (channel_at s ch) (sums ch h)))

@@ -1,19 +1,19 @@
 -- The range that every figure keeps, and the rest that a channel reaches which stays unconverged, over lists of calls.
 use Rattle.std.specs.Prelude.{◌≡◌, Bool, true, false, cond, not, List, [], ◌∷◌, ◌++◌, ℕ, ◌≤◌, ◌<◌, eqb, Float, length, get_or}
+use Rattle.aec3_common.specs.Answers.{Answered}
 use Rattle.aec3_common.specs.Binary32.{number_from}
 use Rattle.aec3_common.specs.Calls.{Call, update, reset, run_by}
-use Rattle.aec3_common.specs.Lists.{every}
+use Rattle.std.specs.List.{list_all}
 use Rattle.aec3_common.specs.Refusal.{accepted}
 use Rattle.aec3_common.specs.Settings.{greatest_erle}
 use Rattle.subband_erle_estimator.specs.declared.settings.SubbandSettings.{SubbandSettings}
 use Rattle.subband_erle_estimator.specs.declared.SubbandErleEstimator.{SubbandErleEstimator}
-use Rattle.subband_erle_estimator.specs.declared.SubbandAnswer.{SubbandAnswer}
 use Rattle.subband_erle_estimator.specs.Channel.{streams_at, onset_at, max_at}
-use Rattle.subband_erle_estimator.specs.Subband.{start_answer, update_answer, reset_answer, channel_at}
+use Rattle.subband_erle_estimator.specs.Subband.{started, update_answer, reset_answer, channel_at}
 
 -- ---- lists of calls
 
-unfoldable pub answer : SubbandErleEstimator → Call → SubbandAnswer
+unfoldable pub answer : SubbandErleEstimator → Call → Answered SubbandErleEstimator
 answer s (update channels converged render capture residual) = update_answer s channels converged render capture residual
 answer s reset = reset_answer s
 
@@ -69,10 +69,10 @@ pub record AtRest (settings : SubbandSettings) (before s : SubbandErleEstimator)
 -- which one and the same channel stands unconverged, each of that channel's bands is at rest, compared with the state before these 500.
 --
 -- The order's demand 3, phrase by phrase:
--- "Take an accepted start" -> `new` promises the claim where it answers 0
+-- "Take an accepted start" -> `new` promises the claim where it accepts, and answers `started settings` then
 -- "any list of its updates and resets after it, empty or with refused calls among them" -> calls, any List Call
 -- "each call taking up the state the last one left" -> run
--- "At the list's end the definition of demand 2 gives" -> run (start_answer settings).state calls, by answer
+-- "At the list's end the definition of demand 2 gives" -> run (started settings) calls, by answer
 -- "in every channel and band" -> in_range, each ch below the channel count and k below 65
 -- "a plain, an uncapped and an onset-compensated ERLE" -> the fields of InRange, of plain_of, uncapped_of, compensated_of
 -- "that are numbers, not below the minimum nor above" -> number_from settings.min
@@ -81,7 +81,7 @@ pub record AtRest (settings : SubbandSettings) (before s : SubbandErleEstimator)
 -- "If onset detection is on" -> settings.onset_detection ≡ true, in at_rest
 -- "the last 500 accepted calls of the list" -> calls is cut in two so that 500 of later are accepted, taking up what earlier left;
 --     every list with 500 accepted calls or more can be cut so (LastCallsCutOff), and they are its last
--- "are all updates in which one and the same channel stands unconverged" -> every (unconverged ch); a reset fails it
+-- "are all updates in which one and the same channel stands unconverged" -> list_all (unconverged ch); a reset fails it
 -- "whatever their powers and other channels" -> unconverged looks at the flag of ch alone
 -- "whatever calls are refused among or after them" -> accepted_of leaves these out, later and run take them up
 -- "each of that channel's 65 bands" -> each k below 65, in at_rest
@@ -90,15 +90,15 @@ pub record AtRest (settings : SubbandSettings) (before s : SubbandErleEstimator)
 -- "its plain and uncapped ERLE have the bits they had before the 500" -> AtRest's plain and uncapped, beside run start earlier
 pub record RangeAndRest (settings : SubbandSettings) (calls : List Call) : Type 0 where
   pub in_range :
-      let s = run (start_answer settings).state calls in
+      let s = run (started settings) calls in
       (ch k : ℕ) → ch < settings.num_capture_channels → k < 65 → InRange settings s ch k
   pub at_rest :
-      let start = (start_answer settings).state in
+      let start = started settings in
       (earlier later : List Call) → earlier ++ later ≡ calls
       → let before = run start earlier in
       let taken = accepted_of before later in
       (ch : ℕ) → ch < settings.num_capture_channels → settings.onset_detection ≡ true
-      → length taken ≡ 500 → every (unconverged ch) taken ≡ true
+      → length taken ≡ 500 → list_all (unconverged ch) taken ≡ true
       → (k : ℕ) → k < 65 → AtRest settings before (run start calls) ch k
 
 -- ---- the last accepted calls of a list

@@ -1,16 +1,31 @@
 -- The subband estimator: start, update and reset, and the calls that are turned away.
-use Rattle.std.specs.Prelude.{Bool, false, cond, ◌&&◌, List, [], ℕ, leb, ltb, eqb, Float, get_or, take}
-use Rattle.aec3_common.specs.Binary32.{zero32, sums_ok}
+use Rattle.std.specs.Prelude.{Bool, false, cond, ◌&&◌, List, [], ℕ, leb, ltb, eqb, Float, get_or, take, Result}
+use Rattle.aec3_common.specs.declared.settings.ErleSettings.{ErleSettings}
+use Rattle.aec3_common.specs.Answers.{answer_case, Answered}
+use Rattle.aec3_common.specs.Binary32.{sums_ok}
 use Rattle.aec3_common.specs.Calls.{call_refusal}
-use Rattle.aec3_common.specs.Lists.{tab, every}
+use Rattle.std.specs.List.{list_all}
+use Rattle.aec3_common.specs.Lists.{tab}
 use Rattle.aec3_common.specs.Refusal.{unless, accepted, bad_state}
 use Rattle.aec3_common.specs.Settings.{max_capture_channels, limits_and_channels_refusal}
 use Rattle.aec3_common.specs.Spectra.{part}
 use Rattle.subband_erle_estimator.specs.declared.settings.SubbandSettings.{SubbandSettings}
 use Rattle.subband_erle_estimator.specs.declared.channel.SubbandChannel.{SubbandChannel}
 use Rattle.subband_erle_estimator.specs.declared.SubbandErleEstimator.{SubbandErleEstimator}
-use Rattle.subband_erle_estimator.specs.declared.SubbandAnswer.{SubbandAnswer}
 use Rattle.subband_erle_estimator.specs.Channel.{Block, all_points, fresh, channel_after}
+
+-- ---- settings
+
+-- its share of the settings of the whole ERLE estimator
+abbrev pub subband_settings : ErleSettings → SubbandSettings
+subband_settings s =
+    record {
+      min = s.min;
+      max_l = s.max_l;
+      max_h = s.max_h;
+      onset_detection = s.onset_detection;
+      num_capture_channels = s.num_capture_channels;
+    }
 
 -- ---- calls turned away
 
@@ -26,7 +41,7 @@ channel_ok c = leb c.num_points all_points && sums_ok c.y2 && sums_ok c.e2
 unfoldable pub state_ok : SubbandErleEstimator → Bool
 state_ok s =
     eqb (settings_refusal s.settings) accepted
-    && every channel_ok (take s.settings.num_capture_channels s.channels)
+    && list_all channel_ok (take s.settings.num_capture_channels s.channels)
 
 -- the first of 20, 21, 5 and 6, or 0
 unfoldable pub update_refusal : SubbandErleEstimator → ℕ → List Bool → List Float → List Float → List Float → ℕ
@@ -43,18 +58,12 @@ state_refusal s = unless (state_ok s) bad_state accepted
 unfoldable pub started : SubbandSettings → SubbandErleEstimator
 started s = record { settings = s; channels = tab max_capture_channels (λ ch. fresh s.min) }
 
--- what a refused start answers with: settings that number 20 turns away
-unfoldable pub refused_settings : SubbandSettings
-refused_settings =
-    record { min = zero32; max_l = zero32; max_h = zero32; onset_detection = false; num_capture_channels = 0 }
-
-unfoldable pub start_answer : SubbandSettings → SubbandAnswer
-start_answer s =
-    let n = settings_refusal s in
-    record { state = started (cond (eqb n accepted) s refused_settings); refused = n }
+-- The answer: what a start gives, or the refusal.
+unfoldable pub start_answer : SubbandSettings → Result SubbandErleEstimator ℕ
+start_answer s = answer_case (settings_refusal s) (started s)
 
 -- a reset leaves what a start with the state's settings gives
-unfoldable pub reset_answer : SubbandErleEstimator → SubbandAnswer
+unfoldable pub reset_answer : SubbandErleEstimator → Answered SubbandErleEstimator
 reset_answer s =
     let n = state_refusal s in
     record { state = cond (eqb n accepted) (started s.settings) s; refused = n }
@@ -102,7 +111,7 @@ updated s converged render capture residual =
     }
 
 -- The answer: the next state and 0, or the state as it was and the refusal.
-unfoldable pub update_answer : SubbandErleEstimator → ℕ → List Bool → List Float → List Float → List Float → SubbandAnswer
+unfoldable pub update_answer : SubbandErleEstimator → ℕ → List Bool → List Float → List Float → List Float → Answered SubbandErleEstimator
 update_answer s channels converged render capture residual =
     let n = update_refusal s channels converged render capture residual in
     record { state = cond (eqb n accepted) (updated s converged render capture residual) s; refused = n }

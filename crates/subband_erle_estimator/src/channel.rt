@@ -7,13 +7,13 @@ ghost use Rattle.subband_erle_estimator.specs.Steps.{learnt_by};
 use crate::settings::SubbandSettings;
 use aec3_common::spectra::copy_ends;
 use aec3_common::sums_ok;
-use erle_bands::onsets::{decay_compensated, hold_again, lower_holds, stop_waiting, wait_again};
-use erle_bands::streams::move_stream;
+use erle_bands::onsets::{decay_compensated, lower_holds, wait_again};
+use erle_bands::streams::NewRatios;
 use erle_bands::sums::{add_powers, note_low_energy, ratios};
 
 pub const POINTS_TO_ACCUMULATE: usize = 6;
 
-#[derive(Clone, Copy)]
+#[derive(Clone, Copy, Debug)]
 pub struct SubbandChannel {
     pub num_points: usize,
     pub erle: [f32; 65],
@@ -127,26 +127,11 @@ impl SubbandChannel {
         add_powers(&mut self.y2, y2, anew);
         add_powers(&mut self.e2, e2, anew);
         note_low_energy(&mut self.low_render_energy, x2, anew);
-        let points = points_with(self.num_points);
-        self.num_points = points;
-        if points == POINTS_TO_ACCUMULATE {
-            *self = self.learnt(settings);
+        self.num_points = points_with(self.num_points);
+        if self.num_points == POINTS_TO_ACCUMULATE {
+            self.learn(settings);
         }
-        let on = settings.onset_detection;
-        lower_holds(&mut self.hold_counters, on);
-        let holds = self.hold_counters;
-        let onsets = self.erle_onsets;
-        decay_compensated(
-            &mut self.erle_onset_compensated,
-            &onsets,
-            &holds,
-            settings.min,
-            on,
-        );
-        wait_again(&mut self.coming_onset, &holds, on);
-        copy_ends(&mut self.erle);
-        copy_ends(&mut self.erle_onset_compensated);
-        copy_ends(&mut self.erle_unbounded);
+        self.decay_in_place(settings);
     }
 
     // One update of a channel that stands unconverged.
@@ -157,53 +142,40 @@ impl SubbandChannel {
         self
     }
 
-    // The same of a record that is lent.
+    // The same of a record that is lent. A converged channel's update ends with it.
     pub fn decay_in_place(&mut self, settings: SubbandSettings)
         ensures { self.new ≡ channel_after settings unconverged_block self.old }
     {
         let on = settings.onset_detection;
         lower_holds(&mut self.hold_counters, on);
-        let holds = self.hold_counters;
-        let onsets = self.erle_onsets;
         decay_compensated(
             &mut self.erle_onset_compensated,
-            &onsets,
-            &holds,
+            &self.erle_onsets,
+            &self.hold_counters,
             settings.min,
             on,
         );
-        wait_again(&mut self.coming_onset, &holds, on);
+        wait_again(&mut self.coming_onset, &self.hold_counters, on);
         copy_ends(&mut self.erle);
         copy_ends(&mut self.erle_onset_compensated);
         copy_ends(&mut self.erle_unbounded);
     }
 
-    // What the bands learn from the ratios of the sums. Sums and low energy are looked at from copies, so that a compiler can
-    // make vector code of the loops.
-    fn learnt(mut self, settings: SubbandSettings) -> SubbandChannel
-        ensures { result ≡ learnt_by settings self }
+    // What the bands learn from the ratios of the sums.
+    fn learn(&mut self, settings: SubbandSettings)
+        ensures { self.new ≡ learnt_by settings self.old }
     {
-        let y2 = self.y2;
-        let e2 = self.e2;
-        let low = self.low_render_energy;
-        let new_erle = ratios(&y2, &e2);
-        let limits = settings.limits();
-        let uncapped = settings.uncapped_limits();
-        move_stream(&mut self.erle, &new_erle, &e2, &low, limits);
-        move_stream(&mut self.erle_unbounded, &new_erle, &e2, &low, uncapped);
+        let news = NewRatios {
+            ratios: &ratios(&self.y2, &self.e2),
+            e2: &self.e2,
+            low: &self.low_render_energy,
+        };
+        news.move_stream(&mut self.erle, settings.limits());
+        news.move_stream(&mut self.erle_unbounded, settings.uncapped_limits());
         if settings.onset_detection {
-            move_stream(
-                &mut self.erle_onset_compensated,
-                &new_erle,
-                &e2,
-                &low,
-                limits,
-            );
-            stop_waiting(&mut self.coming_onset, &e2, &low);
-            hold_again(&mut self.hold_counters, &e2, &low);
-            self
-        } else {
-            self
+            news.move_stream(&mut self.erle_onset_compensated, settings.limits());
+            news.stop_waiting(&mut self.coming_onset);
+            news.hold_again(&mut self.hold_counters);
         }
     }
 }

@@ -1,13 +1,13 @@
 // The settings of the estimator, and what turns them away.
 ghost use Rattle.std.specs.Prelude.{◌≡◌};
-ghost use Rattle.subband_erle_estimator.specs.Subband.{settings_refusal, refused_settings};
-ghost use Rattle.subband_erle_estimator.specs.Steps.{limits_of, uncapped_limits, judged_channels};
+ghost use Rattle.aec3_common.specs.Answers.{number_of};
+ghost use Rattle.subband_erle_estimator.specs.Subband.{subband_settings, settings_refusal};
+ghost use Rattle.subband_erle_estimator.specs.Steps.{limits_of, uncapped_limits};
 
-use aec3_common::refusal::ACCEPTED;
-use aec3_common::settings::{GREATEST_ERLE, limits_and_channels_refusal};
-use erle_bands::streams::Limits;
+use aec3_common::settings::{GREATEST_ERLE, judge_limits_and_channels};
+use aec3_common::{ErleLimits, ErleSettings, Refusal};
 
-#[derive(Clone, Copy)]
+#[derive(Clone, Copy, Debug)]
 pub struct SubbandSettings {
     pub min: f32,
     pub max_l: f32,
@@ -16,46 +16,35 @@ pub struct SubbandSettings {
     pub num_capture_channels: usize,
 }
 
-// What a refused start answers with: number 20 turns it away.
-#[tactic(auto, unfolding(crate::specs::Subband::refused_settings))]
-pub fn refused_settings() -> SubbandSettings
-    ensures { result ≡ refused_settings }
-{
-    SubbandSettings {
-        min: 0.0,
-        max_l: 0.0,
-        max_h: 0.0,
-        onset_detection: false,
-        num_capture_channels: 0,
+// Its share of the settings of the whole ERLE estimator.
+impl From<ErleSettings> for SubbandSettings {
+    ghost from_gives = { λ settings share. share ≡ subband_settings settings };
+
+    fn from(settings: ErleSettings) -> SubbandSettings {
+        SubbandSettings {
+            min: settings.min,
+            max_l: settings.max_l,
+            max_h: settings.max_h,
+            onset_detection: settings.onset_detection,
+            num_capture_channels: settings.num_capture_channels,
+        }
     }
 }
 
 impl SubbandSettings {
-    // The first of 1 and 2 that the settings break, or 0.
+    // The first of 1 and 2 that the settings break.
     #[tactic(auto, unfolding(crate::specs::Subband::settings_refusal))]
-    pub fn refusal(self) -> u32
-        ensures { result ≡ settings_refusal self }
+    pub fn judge(self) -> Result<(), Refusal>
+        ensures { number_of result ≡ settings_refusal self }
     {
-        limits_and_channels_refusal(self.min, self.max_l, self.max_h, self.num_capture_channels)
-    }
-
-    // How many channels' records number 20 looks at: none where the settings fail already.
-    #[tactic(auto, unfolding(crate::specs::Steps::judged_channels))]
-    pub(crate) fn judged_channels(self) -> usize
-        ensures { result ≡ judged_channels self }
-    {
-        if self.refusal() == ACCEPTED {
-            self.num_capture_channels
-        } else {
-            0
-        }
+        judge_limits_and_channels(self.limits(), self.num_capture_channels)
     }
 
     // The limits of the plain and the compensated stream.
-    pub(crate) fn limits(self) -> Limits
+    pub fn limits(self) -> ErleLimits
         ensures { result ≡ limits_of self }
     {
-        Limits {
+        ErleLimits {
             min: self.min,
             max_l: self.max_l,
             max_h: self.max_h,
@@ -63,10 +52,10 @@ impl SubbandSettings {
     }
 
     // The limits of the uncapped stream.
-    pub(crate) fn uncapped_limits(self) -> Limits
+    pub(crate) fn uncapped_limits(self) -> ErleLimits
         ensures { result ≡ uncapped_limits self }
     {
-        Limits {
+        ErleLimits {
             min: self.min,
             max_l: GREATEST_ERLE,
             max_h: GREATEST_ERLE,

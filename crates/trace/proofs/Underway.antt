@@ -6,6 +6,7 @@ use Prim.Native.Nat.{ℕ, ◌+◌, ◌-◌, ◌≤◌}
 use native.Mathlib.Omega.{arith}
 use borrow.Author.Tests.{eq-eqb}
 use lib.ListN.{length, take, drop, length-drop}
+use Rattle.std.specs.Prelude.{Some, None}
 use Rattle.aec3_common.specs.Refusal.{accepted}
 use Rattle.subband_erle_estimator.specs.Subband.{settings_refusal}
 use Rattle.subband_erle_estimator.proofs.Judged.{settings-few}
@@ -115,30 +116,30 @@ module _
     abbrev lent : List ℕ
     lent = take (length s - now.used) rest
 
-    module _ (due : now.state.rows_due ≤ 0) {number : ℕ} (is : number ≡ refusal_ahead (standing_of now.state) ended lent) where
+    module _ (due : now.state.rows_due ≤ 0) where
       none : now.state.rows_due ≡ 0
       none = omega arith
 
-      number-is : number ≡ refusal_ahead (standing_of now.state) ended rest
-      number-is = is ∙ ap (refusal_ahead (standing_of now.state) ended) (lent-ahead s now.used)
+      number-is : refusal_ahead (standing_of now.state) ended lent ≡ refusal_ahead (standing_of now.state) ended rest
+      number-is = ap (refusal_ahead (standing_of now.state) ended) (lent-ahead s now.used)
 
-      pub ends-refused : (number ≡ accepted → ⊥) → fed t s ended d at ≡ refused_end now number
-      ends-refused bad = ends_so (fed-refused s ended now none number-is bad)
+      pub ends-refused : {n : ℕ} → n ≡ refusal_ahead (standing_of now.state) ended lent → (n ≡ accepted → ⊥) → fed t s ended d at ≡ refused_end now n
+      ends-refused is bad = ends_so (fed-refused s ended now none (is ∙ number-is) bad)
 
-      module _ (passes : number ≡ accepted) {l : ℕ} (long : l ≡ frame_length lent) where
+      module _ (passes : accepted ≡ refusal_ahead (standing_of now.state) ended lent) where
         fine : refusal_ahead (standing_of now.state) ended rest ≡ accepted
-        fine = sym number-is ∙ passes
+        fine = sym (passes ∙ number-is)
 
-        length-is : l ≡ frame_length rest
-        length-is = long ∙ ap frame_length (lent-ahead s now.used)
+        length-is : frame_length lent ≡ frame_length rest
+        length-is = ap frame_length (lent-ahead s now.used)
 
-        pub ends-cut : l ≡ 0 → fed t s ended d at ≡ record { walk = now; stop = NoRecord }
-        ends-cut cut = ends_so (fed-nothing s ended now none fine (no-length-framed rest (sym length-is ∙ cut)))
+        pub ends-cut : None ≡ frame_length lent → fed t s ended d at ≡ record { walk = now; stop = NoRecord }
+        ends-cut cut = ends_so (fed-nothing s ended now none fine (no-length-framed rest (cut ∙ length-is)))
 
         -- a whole record ahead, which is no block
-        module _ (some : l ≡ 0 → ⊥) (no_block : framed rest ≡ true → is_block (record_at now.state (record_in rest)) ≡ true → refusal_at now.state (record_in rest) ≡ accepted → ⊥) where
+        module _ {l : ℕ} (long : Some l ≡ frame_length lent) (no_block : framed rest ≡ true → is_block (record_at now.state (record_in rest)) ≡ true → refusal_at now.state (record_in rest) ≡ accepted → ⊥) where
           whole : Whole rest l
-          whole = whole_is rest length-is some
+          whole = whole_is rest (long ∙ length-is)
 
           pub ends-within : now.used + 4 + l ≤ length s
           ends-within = omega (arith, whole.room, length-drop now.used s, u.within)

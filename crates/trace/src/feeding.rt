@@ -4,18 +4,17 @@ ghost use Rattle.trace_state.specs.Feed.{refused_end, GivesListing};
 ghost use Rattle.trace.specs.Answers.{answer_of, feed_answer, feed_over};
 
 use aec3_common::counts::one_more;
-use aec3_common::refusal::ACCEPTED;
 use erle_estimator::ErleSettings;
 use trace_blocks::run_blocks;
 use trace_records::frames::LENGTH_SIZE;
-use trace_records::judge::refusal_ahead;
+use trace_records::judge::judge_ahead;
 use trace_records::{Standing, frame_length};
 use trace_state::records::after_record;
 use trace_state::{Stop, Trace, state_ok};
 use trace_text::put_refused;
 
 // The state, how many bytes are done with, the place where the next line goes, and why it stopped.
-#[derive(Clone, Copy)]
+#[derive(Clone, Copy, Debug)]
 pub struct Fed {
     pub state: Trace,
     pub used: usize,
@@ -60,7 +59,7 @@ fn refuse(state: Trace, used: usize, number: u32, out: &mut [u8], at: usize) -> 
 // Takes the records that the bytes begin with, and writes their lines from a place on, until it stops. It is told whether the trace ends with
 // these bytes: if not, the front of a record is left for a later call, with more bytes behind it. Rows that find no room are due in the state; a
 // refusal that finds none is found again in the bytes that are left. A refused record is not done with, and nothing is to be fed behind it. 20 is
-// judged of the state that is handed in, and not again between records.
+// judged of the state that is handed in, and not again between records. The table and the place are no struct: `Transducer` hands them apart.
 pub fn feed(t: Trace, input: &[u8], ended: bool, out: &mut [u8], at: usize) -> Fed
     ensures value { result ≡ feed_answer t input.now ended out.old at }
     ensures out_after { out.new ≡ feed_over t input.now ended out.old at }
@@ -73,6 +72,7 @@ pub fn feed(t: Trace, input: &[u8], ended: bool, out: &mut [u8], at: usize) -> F
     let mut state = t;
     let mut used = 0;
     let mut at = at;
+    // No `for`: how many turns there are is found by going on.
     loop {
         let run = run_blocks(state, input, used, out, at);
         let ran = run.state;
@@ -82,14 +82,12 @@ pub fn feed(t: Trace, input: &[u8], ended: bool, out: &mut [u8], at: usize) -> F
             return stopped(ran, used, at, Stop::NoRoom);
         }
         let standing = standing_of(ran.estimator.settings);
-        let number = refusal_ahead(standing, &input[used..], ended);
-        if number != ACCEPTED {
-            return refuse(ran, used, number, out, at);
+        if let Err(refusal) = judge_ahead(standing, &input[used..], ended) {
+            return refuse(ran, used, refusal.into(), out, at);
         }
-        let length = frame_length(&input[used..]);
-        if length == 0 {
+        let Some(length) = frame_length(&input[used..]) else {
             return stopped(ran, used, at, Stop::NoRecord);
-        }
+        };
         let start = used + LENGTH_SIZE;
         let end = start + length;
         state = after_record(ran, &input[start..end]);

@@ -15,21 +15,20 @@ use trace_state::{Trace, beginning};
 use trace_text::put_header;
 
 // The state of a trace, and whether the header is still to be written.
-#[derive(Clone, Copy)]
+#[derive(Clone, Copy, Debug)]
 pub struct Lister {
     pub trace: Trace,
     pub header_due: bool,
 }
 
-// What feeding wants next.
+// What feeding wants next. No From: both types are other crates'.
 fn wanted_next(stop: trace_state::Stop) -> Stop
     ensures { result ≡ wanted stop }
 {
     match stop {
         trace_state::Stop::NoRecord => Stop::WantsBytes,
         trace_state::Stop::NoRoom => Stop::WantsRoom,
-        trace_state::Stop::Refused(_) => Stop::Done,
-        trace_state::Stop::BadState => Stop::Done,
+        trace_state::Stop::Refused(_) | trace_state::Stop::BadState => Stop::Done,
     }
 }
 

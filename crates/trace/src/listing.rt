@@ -6,8 +6,8 @@ use crate::feeding::feed;
 use trace_state::{Stop, beginning};
 use trace_text::put_header;
 
-// Whether there was room for all of the listing, and how much was written.
-#[derive(Clone, Copy)]
+// Whether there was room for all of the listing, and how much was written. No Option: how much was written counts either way.
+#[derive(Clone, Copy, Debug, PartialEq, Eq)]
 pub struct Listed {
     pub written: usize,
     pub fits: bool,
@@ -17,12 +17,7 @@ pub struct Listed {
 fn lacks_room(stop: Stop) -> bool
     ensures { result ≡ no_room stop }
 {
-    match stop {
-        Stop::NoRoom => true,
-        Stop::NoRecord => false,
-        Stop::Refused(_) => false,
-        Stop::BadState => false,
-    }
+    matches!(stop, Stop::NoRoom)
 }
 
 // The listing of a trace, and the rest of the slice as it was. Where there is no room for all, as many of its lines are written as find room.
@@ -38,9 +33,8 @@ pub fn list_trace(input: &[u8], out: &mut [u8]) -> Listed
         };
     }
     let fed = feed(beginning(), input, true, out, at);
-    let stop = fed.stop;
     Listed {
         written: fed.at,
-        fits: !lacks_room(stop),
+        fits: !lacks_room(fed.stop),
     }
 }

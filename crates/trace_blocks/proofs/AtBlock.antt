@@ -6,6 +6,7 @@ use native.Mathlib.Omega.{arith}
 use borrow.Author.Tests.{ne_eqb}
 use lib.Ieee.{Float}
 use lib.ListN.{length, take, drop}
+use Rattle.std.specs.Prelude.{Option, Some, None}
 use Rattle.aec3_common.specs.declared.settings.ErleSettings.{ErleSettings}
 use Rattle.aec3_common.specs.Refusal.{accepted}
 use Rattle.erle_estimator.specs.declared.ErleEstimator.{ErleEstimator}
@@ -16,7 +17,7 @@ use Rattle.trace_state.specs.Apply.{channels_of, standing_of, row_at}
 use Rattle.trace_state.specs.Feed.{Walk}
 use Rattle.trace_blocks.specs.Steps.{RowsLeft, rows_written, block_frame_length, Ran, AfterBlock, Taken}
 use Rattle.trace_blocks.proofs.Due.{walk_with}
-use Rattle.trace_blocks.proofs.Frames.{BlockFrame, some-frame, frame-long, frame-ends, record-ahead, lent-ahead}
+use Rattle.trace_blocks.proofs.Frames.{BlockFrame, some-frame, frame-ends, record-ahead, lent-ahead}
 use Rattle.trace_blocks.proofs.Going.{Going, going-rows, rows_end, not-in-form, values-not-refused, block-form}
 
 -- What the loop knows at a block that the bytes ahead begin with, whose L is l. The count of channels was read before the loop.
@@ -58,13 +59,16 @@ module _
           no_block = λ none. absurd (omega arith);
         }
 
-    module _ (none : r.due ≤ 0) {l : ℕ} (is : l ≡ block_frame_length (record { num_capture_channels = channels_of from.state.estimator }) (take (length s - before.used) (drop before.used s))) where
-      length-is : l ≡ block_frame_length (standing_of now.state) (drop before.used s)
-      length-is = is ∙ (λ i. block_frame_length (record { num_capture_channels = as-before i }) (lent-ahead s before.used i))
+    module _ (none : r.due ≤ 0) where
+      abbrev told : Option ℕ
+      told = block_frame_length (record { num_capture_channels = channels_of from.state.estimator }) (take (length s - before.used) (drop before.used s))
+
+      told-is : told ≡ block_frame_length (standing_of now.state) (drop before.used s)
+      told-is i = block_frame_length (record { num_capture_channels = as-before i }) (lent-ahead s before.used i)
 
       -- the bytes ahead begin with no block in form
-      pub ends-no-frame : l ≡ 0 → Ran s from now
-      ends-no-frame zero-long =
+      pub ends-no-frame : None ≡ told → Ran s from now
+      ends-no-frame is =
           let b = behind-rows in
           record {
             same = b.same;
@@ -73,15 +77,14 @@ module _
             onward = b.onward;
             within = b.within;
             full = λ some. absurd (omega arith);
-            no_block = λ no whole kind ok. not-in-form _ _ whole kind ok (sym length-is ∙ zero-long);
+            no_block = λ no whole kind ok. not-in-form _ _ whole kind ok (is ∙ told-is);
           }
 
-      pub at-block : (l ≡ 0 → ⊥) → AtBlock s from now values l
-      at-block some =
+      pub at-block : {l : ℕ} → Some l ≡ told → AtBlock s from now values l
+      at-block is =
           let b = behind-rows in
           let no : r.due ≡ 0 = omega arith in
-          let frame : BlockFrame (standing_of now.state) (drop before.used s) = some-frame _ _ (omega (arith, length-is)) in
-          let long = length-is ∙ frame-long _ _ frame in
+          let (frame, long) = some-frame (standing_of now.state) (drop before.used s) (is ∙ told-is) in
           record {
             going = b;
             as_many = as-before;

@@ -2,22 +2,25 @@
 use mathlib.Core.Path.{◌≡◌, refl, sym, ap, ◌∙◌}
 use mathlib.Core.Bool.{Bool, true, false, cond, false≢true}
 use mathlib.Core.List.{List}
-use Prim.Native.Nat.{ℕ, ◌+◌, ◌-◌, ◌≤◌, ◌<◌}
+use mathlib.Core.Logic.{◌⊎◌, inl, inr}
+use Prim.Native.Nat.{ℕ, ◌+◌, ◌-◌, ◌≤◌}
 use native.Mathlib.Omega.{arith}
 use borrow.Author.Tests.{eq-eqb, eqb-true}
 use lib.Dec.{eqb}
 use lib.ListN.{length, take, drop, length-drop}
+use Rattle.std.specs.Prelude.{Some, None}
 use lib.Seq.{take_all, drop-drop}
 use Rattle.aec3_common.specs.Refusal.{accepted}
 use Rattle.aec3_common.proofs.Choices.{each-of-three}
 use Rattle.trace_records.specs.declared.judge.Standing.{Standing}
 use Rattle.trace_records.specs.declared.records.Decoded.{Decoded}
-use Rattle.trace_records.specs.declared.records.Decoded.TheVariants.{Block}
+use Rattle.trace_records.specs.declared.records.Decoded.TheVariants.{Settings, Block, Reset, Unknown}
+use Rattle.trace_records.specs.declared.records.SettingsRecord.{SettingsRecord}
 use Rattle.trace_records.specs.Frames.{length_in, framed, record_in, frame_length}
 use Rattle.trace_records.specs.Records.{Record, settings, block, reset, unknown, settings_in, block_in, delay_flag_in, kind_of, settings_kind, block_kind, reset_kind, decoded}
 use Rattle.trace_records.specs.Judge.{form_refusal}
 use Rattle.trace_records.specs.Steps.{record_from}
-use Rattle.trace_records.proofs.Framing.{framed-least, framed-most, framed-room, framed-length, length-framed, no-length-framed}
+use Rattle.trace_records.proofs.Framing.{framed-least, framed-most, framed-room, length-framed, no-length-framed}
 use Rattle.trace_blocks.specs.Steps.{is_block_frame, block_frame_length}
 use Rattle.trace_state.specs.Apply.{is_block}
 
@@ -30,10 +33,9 @@ pub record Whole (s : List ℕ) (n : ℕ) : Type 0 where
   pub few : n ≤ 65532
   pub room : 4 + n ≤ length s
 
-pub whole_is : (s : List ℕ) {n : ℕ} → n ≡ frame_length s → (n ≡ 0 → ⊥) → Whole s n
-whole_is s is some =
-    let ok = length-framed s (λ e. some (is ∙ e)) in
-    let long = is ∙ framed-length s ok in
+pub whole_is : (s : List ℕ) {n : ℕ} → Some n ≡ frame_length s → Whole s n
+whole_is s is =
+    let (ok, long) = length-framed s _ is in
     record {
       whole = ok;
       long = long;
@@ -82,21 +84,21 @@ module _ (st : Standing) (s : List ℕ) where
   unfolding is_block_frame is_block
   is-frame p = rw p.kind (simp (p.whole, eq-eqb _ _ p.form))
 
-  -- a length is given for a block frame
-  pub some-frame : 0 < block_frame_length st s → BlockFrame st s
+  -- a length is given for a block frame, its L
+  pub some-frame : {l : ℕ} → Some l ≡ block_frame_length st s → BlockFrame st s × (l ≡ length_in s)
   unfolding block_frame_length
-  some-frame some = go (is_block_frame st s) refl
+  some-frame {l} some = go (is_block_frame st s) refl some
     where
-      go : (t : Bool) → is_block_frame st s ≡ t → BlockFrame st s
-      go true e = frame-of e
-      go false e = absurd (omega (arith, rw e at some))
+      go : (t : Bool) → is_block_frame st s ≡ t → Some l ≡ cond t (Some (length_in s)) None → BlockFrame st s × (l ≡ length_in s)
+      go true e is = (frame-of e, cc)
+      go false e is = absurd (cc)
 
-  pub frame-long : BlockFrame st s → block_frame_length st s ≡ length_in s
+  pub frame-long : BlockFrame st s → block_frame_length st s ≡ Some (length_in s)
   unfolding block_frame_length
   frame-long p = rw (is-frame p)
 
   -- bytes that begin with no whole record
-  pub frame-none : frame_length s ≡ 0 → 0 ≡ block_frame_length st s
+  pub frame-none : None ≡ frame_length s → None ≡ block_frame_length st s
   unfolding block_frame_length is_block_frame
   frame-none none = sym (rw (no-length-framed s none))
 
@@ -110,7 +112,7 @@ module _ (st : Standing) (s : List ℕ) where
     -- a block, by its form
     pub frame-by :
         {form : ℕ} → record_from st lent Block ≡ decoded st lent → form ≡ form_refusal st (length lent) (block_of st lent)
-        → (t : Bool) → eqb form accepted ≡ t → cond t n 0 ≡ block_frame_length st s
+        → (t : Bool) → eqb form accepted ≡ t → cond t (Some n) None ≡ block_frame_length st s
     unfolding block_frame_length is_block_frame is_block record_from
     frame-by kind form t e =
         let is = rw lent_is at kind in
@@ -118,11 +120,18 @@ module _ (st : Standing) (s : List ℕ) where
         sym (rw (w.whole, ← is, ← same, e, w.long))
 
     -- another kind
-    pub frame-other : (d : Decoded) → record_from st lent d ≡ decoded st lent → is_block (record_from st lent d) ≡ false → 0 ≡ block_frame_length st s
-    unfolding block_frame_length is_block_frame
+    pub frame-other :
+        (d : Decoded) → record_from st lent d ≡ decoded st lent
+        → ((x : SettingsRecord) × (d ≡ Settings x)) ⊎ (((flag : ℕ) × (d ≡ Reset flag)) ⊎ (d ≡ Unknown)) → None ≡ block_frame_length st s
+    unfolding block_frame_length is_block_frame is_block record_from
     frame-other d kind other =
-        let is : is_block (decoded st (record_in s)) ≡ false = rw lent_is at (sym (ap is_block kind) ∙ other) in
+        let is : is_block (decoded st (record_in s)) ≡ false = rw lent_is at (sym (ap is_block kind) ∙ none-of other) in
         sym (rw (w.whole, is))
+      where
+        none-of : ((x : SettingsRecord) × (d ≡ Settings x)) ⊎ (((flag : ℕ) × (d ≡ Reset flag)) ⊎ (d ≡ Unknown)) → is_block (record_from st lent d) ≡ false
+        none-of (inl e) = ap (λ (k : Decoded). is_block (record_from st lent k)) e.1
+        none-of (inr (inl e)) = ap (λ (k : Decoded). is_block (record_from st lent k)) e.1
+        none-of (inr (inr e)) = ap (λ (k : Decoded). is_block (record_from st lent k)) e
 
 -- the record, as the part of the input that is lent
 pub record-ahead :

@@ -7,6 +7,7 @@ use native.Mathlib.Omega.{arith}
 use borrow.Author.Tests.{eq-eqb}
 use lib.Ieee.{Float}
 use lib.ListN.{length, drop}
+use Rattle.std.specs.Prelude.{Some, None}
 use Rattle.aec3_common.specs.declared.settings.ErleSettings.{ErleSettings}
 use Rattle.aec3_common.specs.Counts.{one_more}
 use Rattle.aec3_common.specs.Refusal.{accepted}
@@ -16,7 +17,6 @@ use Rattle.trace_records.specs.Frames.{length_in, framed, record_in}
 use Rattle.trace_records.specs.declared.judge.Standing.{Standing}
 use Rattle.trace_records.specs.Records.{BlockRecord, block, block_in, decoded}
 use Rattle.trace_records.specs.Judge.{content_refusal, record_refusal, refusal_in}
-use Rattle.trace_records.proofs.Framing.{framed-least}
 use Rattle.trace_records.proofs.Judged.{BlockOk, block-ok, form-passed, both-passed}
 use Rattle.trace_text.specs.Text.{Item}
 use Rattle.trace_state.specs.declared.Trace.{Trace}
@@ -91,10 +91,11 @@ module _ (st : Standing) (s : List ℕ) (whole : framed s ≡ true) (kind : is_b
   judged : record_refusal st (length (record_in s)) (block b) ≡ accepted
   judged = rw (block-is st (record_in s) kind) at ok
 
-  pub not-in-form : block_frame_length st s ≡ 0 → ⊥
+  pub not-in-form : None ≡ block_frame_length st s → ⊥
   not-in-form none =
       let frame : BlockFrame st s = record { whole = whole; kind = block-is st (record_in s) kind; form = (both-passed st (length (record_in s)) (block b) judged).0 } in
-      omega (arith, frame-long st s frame, framed-least s whole)
+      let both-ways : None ≡ Some (length_in s) = none ∙ frame-long st s frame in
+      cc
 
   pub values-not-refused : (content_refusal (block b) ≡ accepted → ⊥) → ⊥
   values-not-refused some = some (both-passed st (length (record_in s)) (block b) judged).1

@@ -1,5 +1,5 @@
 -- What inner functions of the code promise; no part of the definition.
-use Rattle.std.specs.Prelude.{◌≡◌, Bool, true, false, cond, ◌&&◌, List, ℕ, zero, suc, ◌+◌, ◌-◌, ◌≤◌, ◌<◌, eqb, Float, length, drop, get_or}
+use Rattle.std.specs.Prelude.{◌≡◌, Bool, true, false, cond, ◌&&◌, List, ℕ, zero, suc, ◌+◌, ◌-◌, ◌≤◌, ◌<◌, eqb, Float, length, drop, get_or, Option, Some, None}
 use Rattle.std.specs.Float.{nan}
 use Rattle.aec3_common.specs.Refusal.{accepted}
 use Rattle.aec3_common.specs.Streams.{erle_of}
@@ -48,9 +48,9 @@ is_block_frame st s =
     let r = decoded st (record_in s) in
     framed s && is_block r && eqb (form_refusal st (length (record_in s)) r) accepted
 
--- its L then, else 0
-unfoldable pub block_frame_length : Standing → List ℕ → ℕ
-block_frame_length st s = cond (is_block_frame st s) (length_in s) 0
+-- its L then
+unfoldable pub block_frame_length : Standing → List ℕ → Option ℕ
+block_frame_length st s = cond (is_block_frame st s) (Some (length_in s)) None
 
 -- what blocks ask of a state: one section, and no more points than a record can hold
 pub record Ready (e : ErleEstimator) : Type 0 where

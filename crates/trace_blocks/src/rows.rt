@@ -9,7 +9,7 @@ use subband_erle_estimator::SubbandChannel;
 use trace_text::put_row;
 
 // What a row shows of a channel.
-#[derive(Clone, Copy)]
+#[derive(Clone, Copy, Debug)]
 struct ChannelFigures {
     plain: f32,
     compensated: f32,
@@ -17,7 +17,7 @@ struct ChannelFigures {
 }
 
 // The place behind the rows that found room, and how many are still due.
-#[derive(Clone, Copy)]
+#[derive(Clone, Copy, Debug)]
 pub struct RowsPut {
     pub at: usize,
     pub due: usize,
@@ -27,28 +27,24 @@ pub struct RowsPut {
 pub fn figure_at(stream: &[f32], band: usize) -> f32
     ensures { result ≡ get_or stream.now band nan }
 {
-    if band < stream.len() {
-        stream[band]
-    } else {
-        0.0 / 0.0
-    }
+    stream.get(band).copied().unwrap_or(f32::NAN)
 }
 
 // A channel's figures where there is one section, which its subband record alone gives.
+#[tactic(auto, unfolding(crate::specs::Steps::figures_of))]
 fn figures_at(c: &SubbandChannel, onset_detection: bool, band: usize) -> ChannelFigures
     ensures { result ≡ figures_of onset_detection band c.now }
 {
     let shown = erle(&c.erle, &c.erle_onset_compensated, true, onset_detection);
-    let compensated = figure_at(shown, band);
     ChannelFigures {
         plain: figure_at(&c.erle, band),
-        compensated,
+        compensated: figure_at(shown, band),
         unbounded: figure_at(&c.erle_unbounded, band),
     }
 }
 
 // Writes the last `due` rows of a block, one behind the other, for as long as each finds room. With one section a channel's figures are those of its
-// subband record alone, which is lent where it stands.
+// subband record alone, which is lent where it stands. Six parameters: parts of a trace's state, in which the estimator alone is lent.
 pub fn put_rows(
     out: &mut [u8],
     at: usize,
@@ -65,9 +61,7 @@ pub fn put_rows(
     let n = estimator.settings.num_capture_channels;
     let on = estimator.settings.onset_detection;
     let mut at = at;
-    let mut due = due;
-    while due > 0 {
-        let ch = n - due;
+    for ch in n - due..n {
         let shown = figures_at(&estimator.subband[ch], on, band);
         let next = put_row(
             out,
@@ -79,10 +73,9 @@ pub fn put_rows(
             shown.unbounded,
         );
         if next == at {
-            return RowsPut { at, due };
+            return RowsPut { at, due: n - ch };
         }
         at = next;
-        due -= 1;
     }
-    RowsPut { at, due }
+    RowsPut { at, due: 0 }
 }

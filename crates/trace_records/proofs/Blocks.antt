@@ -1,15 +1,17 @@
 -- A block in tables: how long its lists are, the loop that reads its numbers, and where each list stands among them.
 use mathlib.Core.Path.{◌≡◌, refl, ap, ◌∙◌}
 use mathlib.Core.Bool.{false}
-use mathlib.Core.List.{List, ◌∷◌, ◌++◌, map}
-use Prim.Native.Nat.{ℕ, zero, suc, ◌+◌, ◌*◌, ◌/◌, ◌%◌, ◌≤◌, ◌<◌}
+use mathlib.Core.List.{List, [], ◌∷◌, ◌++◌, map}
+use Prim.Native.Nat.{ℕ, zero, suc, ◌+◌, ◌-◌, ◌*◌, ◌/◌, ◌%◌, ◌≤◌, ◌<◌}
 use native.Mathlib.Omega.{arith}
-use lib.Ieee.{Float, nan, binary32, of_bits}
-use borrow.Author.Count.{below_more}
-use lib.ListN.{length, set, take, drop, get_or, length-append, length-drop, length-set}
-use lib.Seq.{get_or-take, get_or-drop, get_or-set_same, get_or-set_other, length-take-le}
+use Rattle.std.proofs.Common.{suc-mul, zero-mul}
+use lib.Ieee.{Float, nan}
+use lib.ListN.{length, take, drop, get_or, length-append, length-drop}
+use lib.Seq.{get_or-take, get_or-drop, drop-drop, length-take-le}
 use Rattle.aec3_common.specs.Calls.{value_refusal}
 use Rattle.aec3_common.specs.Lists.{tab}
+use Rattle.aec3_common.specs.Steps.{Changed}
+use Rattle.std.specs.Simd.{first_chunks}
 use Rattle.aec3_common.proofs.Tables.{length-tab, get_or-tab-first, tab-is, tab-same}
 use Rattle.encoding.specs.Bytes.{byte_at, half_at, word_at}
 use Rattle.trace_records.specs.Records.{is_set, value_at, converged_byte, flags_in, spectrum_at, render_place, render_in, spectra_at, capture_place, capture_in, residual_place, residual_in}
@@ -63,32 +65,61 @@ flags-front n r few =
     (length-take-le n (flag_table n r) (omega (arith, length-flag-table n r)))
     (λ k b. get_or-take n (flag_table n r) k false b ∙ get_or-tab-first 4 n (λ ch. is_set (converged_byte r ch)) (λ ch. false) k false few b))
 
--- ---- the loop that reads 65 numbers
+-- the flag bytes are a part of the record
+pub flags-part : (n : ℕ) (r : List ℕ) → 2 + n ≤ length r → take (2 + n - 2) (drop 2 r) ≡ flags_in n r
+unfolding flags_in
+flags-part n r h =
+    let all : 2 + n - 2 ≡ n = omega arith in
+    rw all
+    (tab-is n 0 (converged_byte r) (take n (drop 2 r))
+    (length-take-le n (drop 2 r) (omega (arith, length-drop 2 r)))
+    (λ k b. get_or-take n (drop 2 r) k 0 b ∙ get_or-drop 2 r k 0))
 
--- four bytes one after the other
-pub four_bytes :
-    (r : List ℕ) (i : ℕ)
-    → of_bits binary32 (byte_at r i + 256 * byte_at r (i + 1) + 65536 * (byte_at r (i + 2) + 256 * byte_at r (i + 3))) ≡ value_at r i
+-- ---- 65 numbers, one after the other
+
+-- the number at a place of a part of a record
+pub value-part : (r : List ℕ) (place n i : ℕ) → i + 4 ≤ n → value_at (take n (drop place r)) i ≡ value_at r (place + i)
 unfolding value_at word_at half_at
-four_bytes r i =
-    let next : i + 2 + 1 ≡ i + 3 = omega arith in
-    rw next
+value-part r place n i h =
+    let byte : (j : ℕ) → j < n → get_or (take n (drop place r)) j 0 ≡ get_or r (place + j) 0 = λ j b. get_or-take n (drop place r) j 0 b ∙ get_or-drop place r j 0 in
+    let b0 : byte_at (take n (drop place r)) i ≡ byte_at r (place + i) = byte i (omega arith) in
+    let b1 : byte_at (take n (drop place r)) (i + 1) ≡ byte_at r (place + i + 1) = byte (i + 1) (omega arith) ∙ ap (byte_at r) (omega arith) in
+    let b2 : byte_at (take n (drop place r)) (i + 2) ≡ byte_at r (place + i + 2) = byte (i + 2) (omega arith) ∙ ap (byte_at r) (omega arith) in
+    let b3 : byte_at (take n (drop place r)) (i + 2 + 1) ≡ byte_at r (place + i + 2 + 1) = byte (i + 2 + 1) (omega arith) ∙ ap (byte_at r) (omega arith) in
+    rw (b0, b1, b2, b3)
 
--- one more
-pub numbers-more :
-    {r : List ℕ} {place : ℕ} {before : List Float} {from count : ℕ} {values : List Float} (v : Float)
-    → NumbersRead r place before from count values → from + count < 585 → v ≡ value_at r (place + 4 * count)
-    → NumbersRead r place before from (count + 1) (set values (from + count) v)
-numbers-more {r} {place} {before} {from} {count} {values} v read h is =
-    let at : ℕ = from + count in
+-- what stands in a chunk
+get_or-chunks : {A : Type 0} (n m : ℕ) (xs : List A) (k : ℕ) → k < m → get_or (first_chunks n m xs) k [] ≡ take n (drop (k * n) xs)
+get_or-chunks n zero xs k h = absurd (omega arith)
+get_or-chunks n (suc m) xs zero h = rw zero-mul
+get_or-chunks n (suc m) xs (suc k) h =
+    let on : k * n + n ≡ suc k * n = rw suc-mul (omega arith) in
+    get_or-chunks n m (drop n xs) k (omega arith) ∙ ap (take n) (drop-drop (k * n) n xs ∙ ap (λ (j : ℕ). drop j xs) (omega (arith, on)))
+
+-- a number in four bytes of the part that holds them all
+pub value-four :
+    (r : List ℕ) (place k : ℕ)
+    → k < 65 → value_at (get_or (first_chunks 4 65 (take 260 (drop place r))) k []) 0 ≡ value_at r (place + 4 * k)
+value-four r place k h =
+    let part = take 260 (drop place r) in
+    let at : place + (k * 4 + 0) ≡ place + 4 * k = omega arith in
+    ap (λ (four : List ℕ). value_at four 0) (get_or-chunks 4 65 part k h)
+    ∙ value-part part (k * 4) 4 0 (omega arith)
+    ∙ value-part r place 260 (k * 4 + 0) (omega arith)
+    ∙ ap (value_at r) at
+
+-- the entries of a table were made so
+pub numbers-read :
+    {made : ℕ → Float → Float → Type 0} {r : List ℕ} {place from : ℕ} {before values : List Float}
+    → Changed made from (from + 65) before values → length values ≡ 585
+    → ((k : ℕ) (old new : Float) → k < 65 → made (from + k) old new → new ≡ value_at r (place + 4 * k))
+    → NumbersRead r place before from 65 values
+numbers-read {from = from} {before = before} {values = values} c long told =
     record {
-      long = length-set values at v ∙ read.long;
-      own =
-          below_more (λ k. get_or (set values at v) (from + k) nan ≡ value_at r (place + 4 * k)) count
-          (λ k b. get_or-set_other values at (from + k) v nan (λ q. omega arith) ∙ read.own k b)
-          (get_or-set_same values at v nan (omega (arith, read.long)) ∙ is);
-      under = λ k b. get_or-set_other values at k v nan (λ q. omega arith) ∙ read.under k b;
-      behind = λ k b. get_or-set_other values at k v nan (λ q. omega arith) ∙ read.behind k (omega arith);
+      long = long;
+      own = λ k b. told k (get_or before (from + k) nan) (get_or values (from + k) nan) b (c.within (from + k) nan (omega arith) (omega arith));
+      under = λ k b. c.below k nan b;
+      behind = λ k b. c.above k nan b;
     }
 
 -- ---- one spectrum of each channel

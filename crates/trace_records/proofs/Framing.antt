@@ -5,9 +5,11 @@ use mathlib.Core.List.{List, [], ◌∷◌}
 use Prim.Native.Nat.{ℕ, zero, suc, ◌+◌, ◌≤◌, ◌<◌}
 use native.Mathlib.Omega.{arith}
 use native.Mathlib.Nat.{not-suc-le-zero}
-use borrow.Author.Tests.{leb-true, leb-false, le-leb, lt-leb, lt-ltb}
-use lib.Dec.{leb, ltb}
+use borrow.Author.Tests.{leb-true, leb-false, le-leb, lt-leb}
+use lib.Dec.{leb}
 use lib.ListN.{length, drop}
+use Rattle.std.specs.Prelude.{Some, None}
+use Rattle.std.specs.Option.{is_some}
 use Rattle.aec3_common.proofs.Choices.{and_left, and_right}
 use Rattle.aec3_common.proofs.Ranges.{from-lo, to-hi}
 use Rattle.trace_records.specs.Frames.{Frame, whole, bad, length_in, length_ok, framed, record_in, frames_from, frames, frame_length, length_of}
@@ -58,57 +60,74 @@ module _ (s : List ℕ) (ok : framed s ≡ true) where
   unfolding framed
   framed-room = leb-true (4 + length_in s) (length s) (and_right (length_ok (length_in s)) (leb (4 + length_in s) (length s)) ok)
 
-  pub framed-length : frame_length s ≡ length_in s
+  pub framed-length : frame_length s ≡ Some (length_in s)
   unfolding frame_length
   framed-length = rw ok
 
--- a length is given where a record is whole
-pub length-framed : (s : List ℕ) → (frame_length s ≡ 0 → ⊥) → framed s ≡ true
+-- where a length is given a record is whole, and it is its L
+pub length-framed : (s : List ℕ) (l : ℕ) → Some l ≡ frame_length s → (framed s ≡ true) × (l ≡ length_in s)
 unfolding frame_length
-length-framed s some = go (framed s) refl
+length-framed s l some = go (framed s) refl some
   where
-    go : (t : Bool) → framed s ≡ t → t ≡ true
-    go true e = refl
-    go false e = absurd (some (rw e))
+    go : (t : Bool) → framed s ≡ t → Some l ≡ cond t (Some (length_in s)) None → (framed s ≡ true) × (l ≡ length_in s)
+    go true e is = (e, cc)
+    go false e is = absurd (cc)
 
--- and else none
-pub no-length-framed : (s : List ℕ) → frame_length s ≡ 0 → framed s ≡ false
-no-length-framed s none = go (framed s) refl
+-- and where none is, none is
+pub no-length-framed : (s : List ℕ) → None ≡ frame_length s → framed s ≡ false
+unfolding frame_length
+no-length-framed s none = go (framed s) refl none
   where
-    go : (t : Bool) → framed s ≡ t → t ≡ false
-    go true e = absurd (omega (arith, none, framed-length s e, framed-least s e))
-    go false e = refl
+    go : (t : Bool) → framed s ≡ t → None ≡ cond t (Some (length_in s)) None → framed s ≡ false
+    go true e is = absurd (cc)
+    go false e is = e
 
 -- ---- a whole record by its L and by the bytes that are there
 
+-- four bytes that say no L
+pub none_there : (s : List ℕ) → None ≡ length_of s → None ≡ frame_length s
+unfolding length_of frame_length framed
+none_there s e = go (leb 4 (length s)) refl (length_ok (length_in s)) refl e
+  where
+    go :
+        (some : Bool) → leb 4 (length s) ≡ some → (ok : Bool) → length_ok (length_in s) ≡ ok → None ≡ cond (some && ok) (Some (length_in s)) None
+        → None ≡ cond (ok && leb (4 + length_in s) (length s)) (Some (length_in s)) None
+    go some p false q e = refl
+    go true p true q e = absurd (cc)
+    go false p true q e = sym (rw (lt-leb (4 + length_in s) (length s) (omega (arith, leb-false 4 (length s) p))))
+
 -- bytes that are fewer than L asks
-pub cut_short : (s : List ℕ) (l : ℕ) → l ≡ length_of s → length s < 4 + l → 0 ≡ frame_length s
+pub cut_short : (s : List ℕ) (l : ℕ) → Some l ≡ length_of s → length s < 4 + l → None ≡ frame_length s
 unfolding length_of frame_length framed
 cut_short s l e h = go (leb 4 (length s)) refl (length_ok (length_in s)) refl e
   where
     go :
-        (some : Bool) → leb 4 (length s) ≡ some → (ok : Bool) → length_ok (length_in s) ≡ ok → l ≡ cond (some && ok) (length_in s) 0
-        → 0 ≡ cond (ok && leb (4 + length_in s) (length s)) (length_in s) 0
+        (some : Bool) → leb 4 (length s) ≡ some → (ok : Bool) → length_ok (length_in s) ≡ ok → Some l ≡ cond (some && ok) (Some (length_in s)) None
+        → None ≡ cond (ok && leb (4 + length_in s) (length s)) (Some (length_in s)) None
     go some p false q e = refl
-    go true p true q e = sym (rw (lt-leb (4 + length_in s) (length s) (omega arith)))
-    go false p true q e = sym (rw (lt-leb (4 + length_in s) (length s) (omega (arith, leb-false 4 (length s) p))))
+    go true p true q e =
+        let is : l ≡ length_in s = cc in
+        sym (rw (lt-leb (4 + length_in s) (length s) (omega arith)))
+    go false p true q e = absurd (cc)
 
 -- and bytes that are not
-pub all_there : (s : List ℕ) (l : ℕ) → l ≡ length_of s → 4 + l ≤ length s → length_of s ≡ frame_length s
+pub all_there : (s : List ℕ) (l : ℕ) → Some l ≡ length_of s → 4 + l ≤ length s → Some l ≡ frame_length s
 unfolding length_of frame_length framed
 all_there s l e h = go (length_ok (length_in s)) refl (rw (le-leb 4 (length s) (omega arith)) at e)
   where
     go :
-        (ok : Bool) → length_ok (length_in s) ≡ ok → l ≡ cond (true && ok) (length_in s) 0
-        → cond (leb 4 (length s) && ok) (length_in s) 0 ≡ cond (ok && leb (4 + length_in s) (length s)) (length_in s) 0
-    go true q e = rw (le-leb 4 (length s) (omega arith), le-leb (4 + length_in s) (length s) (omega arith))
-    go false q e = rw (le-leb 4 (length s) (omega arith))
+        (ok : Bool) → length_ok (length_in s) ≡ ok → Some l ≡ cond (true && ok) (Some (length_in s)) None
+        → Some l ≡ cond (ok && leb (4 + length_in s) (length s)) (Some (length_in s)) None
+    go true q e =
+        let is : l ≡ length_in s = cc in
+        e ∙ sym (rw (le-leb (4 + length_in s) (length s) (omega arith)))
+    go false q e = absurd (cc)
 
 -- where four bytes are there, an L is given if they say one that a record can have
-pub some-length : (s : List ℕ) → 4 ≤ length s → ltb 0 (length_of s) ≡ length_ok (length_in s)
+pub some-length : (s : List ℕ) → 4 ≤ length s → is_some (length_of s) ≡ length_ok (length_in s)
 unfolding length_of
-some-length s h = rw (le-leb 4 (length s) h) (go (length_ok (length_in s)) refl)
+some-length s h = rw (le-leb 4 (length s) h) (go (length_ok (length_in s)))
   where
-    go : (ok : Bool) → length_ok (length_in s) ≡ ok → ltb 0 (cond ok (length_in s) 0) ≡ ok
-    go true e = lt-ltb 0 (length_in s) (omega (arith, from-lo 2 65532 (length_in s) e))
-    go false e = refl
+    go : (ok : Bool) → is_some (cond ok (Some (length_in s)) None) ≡ ok
+    go true = refl
+    go false = refl

@@ -5,12 +5,18 @@ use Prim.Native.Nat.{ℕ, ◌≤◌}
 use native.Mathlib.Omega.{arith}
 use borrow.Author.Tests.{eqb-true, eq-eqb, ne_eqb}
 use lib.Dec.{eqb}
+use Rattle.aec3_common.specs.declared.refusal.Refusal.{Refusal}
+use Rattle.aec3_common.specs.Answers.{number}
 use Rattle.aec3_common.specs.Refusal.{unless, accepted, bad_record_length, bad_flag_or_band}
 use Rattle.aec3_common.proofs.Choices.{passed, later-passed, first-of-passed}
 use Rattle.aec3_common.proofs.Ranges.{from-lo, to-hi}
 use Rattle.trace_records.specs.declared.judge.Standing.{Standing}
 use Rattle.trace_records.specs.Records.{BlockRecord, Record, block, reset, unknown}
 use Rattle.trace_records.specs.Judge.{stands, place_refusal, block_length, length_asked, flags_ok, content_refusal, form_refusal, record_refusal}
+
+-- no refusal has the number 0
+pub refused-some : (a : Refusal) → number a ≡ accepted → ⊥
+refused-some a e = grind arith
 
 -- ---- form, and then values
 

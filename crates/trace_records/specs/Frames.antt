@@ -1,5 +1,5 @@
 -- A trace as records: a length L in four bytes, then L bytes, which are the record: its kind and its body.
-use Rattle.std.specs.Prelude.{ℕ, zero, suc, ◌+◌, Bool, cond, ◌&&◌, List, [], ◌∷◌, leb, length, take, drop}
+use Rattle.std.specs.Prelude.{ℕ, zero, suc, ◌+◌, Bool, cond, ◌&&◌, List, [], ◌∷◌, leb, length, take, drop, Option, Some, None}
 use Rattle.aec3_common.specs.Refusal.{from_to}
 use Rattle.encoding.specs.Bytes.{word_at}
 
@@ -35,11 +35,11 @@ frames_from zero (b ∷ s) =
 unfoldable pub frames : List ℕ → List Frame
 frames s = frames_from 0 s
 
--- the L of the whole record that bytes begin with; 0, which is no record's, where they begin with none
-unfoldable pub frame_length : List ℕ → ℕ
-frame_length s = cond (framed s) (length_in s) 0
+-- the L of the whole record that bytes begin with, where they begin with one
+unfoldable pub frame_length : List ℕ → Option ℕ
+frame_length s = cond (framed s) (Some (length_in s)) None
 
--- the same where the record itself may be yet to come: the L that the first four bytes say, or 0 where they are fewer or say
--- none that a record can have
-unfoldable pub length_of : List ℕ → ℕ
-length_of s = cond (leb 4 (length s) && length_ok (length_in s)) (length_in s) 0
+-- the same where the record itself may be yet to come: the L that the first four bytes say, where there are four and they say one that a
+-- record can have
+unfoldable pub length_of : List ℕ → Option ℕ
+length_of s = cond (leb 4 (length s) && length_ok (length_in s)) (Some (length_in s)) None

@@ -2,7 +2,7 @@
 -- the bytes, before there is a record; its rule stands at the end, since it needs that of a record.
 use Rattle.std.specs.Prelude.{ℕ, ◌+◌, ◌*◌, Bool, true, cond, not, ◌&&◌, ◌||◌, List, ◌++◌, leb, ltb, eqb, length}
 use Rattle.aec3_common.specs.Calls.{value_refusal}
-use Rattle.aec3_common.specs.Lists.{every}
+use Rattle.std.specs.List.{list_all}
 use Rattle.aec3_common.specs.Refusal.{unless, first_of, accepted, bad_frame, unknown_kind, bad_record_length, bad_flag_or_band, no_settings, second_settings}
 use Rattle.aec3_common.specs.Settings.{capture_channels_ok, limits_and_channels_refusal}
 use Rattle.trace_records.specs.declared.judge.Standing.{Standing}
@@ -60,7 +60,7 @@ band_ok band = leb band 64
 
 unfoldable pub flags_ok : Record → Bool
 flags_ok (settings s) = flag_ok s.onset_flag && band_ok s.band
-flags_ok (block b) = every flag_ok b.flags
+flags_ok (block b) = list_all flag_ok b.flags
 flags_ok (reset delay_flag) = flag_ok delay_flag
 flags_ok unknown = true
 

@@ -1,14 +1,30 @@
 -- What functions of the code promise besides; no part of the definition of a listing.
-use Rattle.std.specs.Prelude.{◌≡◌, ℕ, ◌+◌, ◌*◌, ◌≤◌, ◌<◌, Bool, false, cond, List, ◌++◌, ltb, Float, length, get_or, take}
+use Rattle.std.specs.Prelude.{◌≡◌, ℕ, ◌+◌, ◌*◌, ◌≤◌, ◌<◌, Bool, false, cond, List, ◌++◌, ltb, Float, length, get_or, take, Result, MatchResult, ◌≢◌}
 use Rattle.std.specs.Float.{nan}
+use Rattle.aec3_common.specs.declared.refusal.Refusal.{Refusal}
+use Rattle.aec3_common.specs.declared.refusal.Refusal.TheVariants.{UnknownKind}
 use Rattle.aec3_common.specs.Calls.{value_refusal}
 use Rattle.aec3_common.specs.Lists.{tab}
 use Rattle.trace_records.specs.declared.judge.Standing.{Standing}
 use Rattle.trace_records.specs.declared.records.Decoded.{Decoded}
 use Rattle.trace_records.specs.declared.records.Decoded.TheVariants.{Settings, Block, Reset, Unknown}
-use Rattle.trace_records.specs.Records.{Record, settings, block, reset, unknown, is_set, value_at, converged_byte, render_in, capture_in, residual_in, block_in}
+use Rattle.trace_records.specs.declared.records.RecordKind.{RecordKind}
+use Rattle.trace_records.specs.declared.records.RecordKind.TheVariants.{Settings as Kind·Settings, Block as Kind·Block, Reset as Kind·Reset}
+use Rattle.trace_records.specs.Records.{Record, settings, block, reset, unknown, settings_kind, block_kind, reset_kind, is_set, value_at, converged_byte, render_in, capture_in, residual_in, block_in}
 
 -- ---- a record in an enum
+
+-- the number that a record of a kind begins with
+abbrev pub number_of_kind : RecordKind → ℕ
+number_of_kind Kind·Settings = settings_kind
+number_of_kind Kind·Block = block_kind
+number_of_kind Kind·Reset = reset_kind
+
+-- the kind with a number, or number 11, where it is none's
+abbrev pub KindOf : ℕ → Result RecordKind Refusal → Type 0
+KindOf number r =
+    MatchResult r (λ kind. number ≡ number_of_kind kind)
+    (λ refusal. (refusal ≡ UnknownKind) × (number ≢ settings_kind) × (number ≢ block_kind) × (number ≢ reset_kind))
 
 -- the record that it stands for, beside the bytes: it holds no spectra of a block
 unfoldable pub record_from : Standing → List ℕ → Decoded → Record

@@ -7,4 +7,4 @@ pub mod records;
 
 pub use frames::{frame_length, length_of};
 pub use judge::Standing;
-pub use records::{Decoded, SettingsRecord, decode, erle_settings, flags_in, read_block};
+pub use records::{Decoded, RecordKind, SettingsRecord, decode, flags_in, read_block};

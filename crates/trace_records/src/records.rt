@@ -1,29 +1,49 @@
 // What the bytes of a record say. Places are counted from its kind on.
 ghost use Rattle.std.specs.Prelude.{◌≡◌, ◌+◌, ◌*◌, ◌≤◌, length};
-ghost use Rattle.std.specs.Float.{binary32};
-ghost use Rattle.std.specs.Float.Ieee.{of_bits};
 ghost use Rattle.encoding.specs.Bytes.{byte_at};
+ghost use Rattle.aec3_common.specs.Answers.{number_of};
 ghost use Rattle.trace_records.specs.declared.judge.Standing.{Standing};
 ghost use Rattle.trace_records.specs.Records.{is_set, value_at, settings_in, erle_settings, decoded};
 ghost use Rattle.trace_records.specs.Judge.{block_length};
-ghost use Rattle.trace_records.specs.Steps.{record_from, flag_table, NumbersRead, BlockRead};
+ghost use Rattle.trace_records.specs.Steps.{KindOf, record_from, flag_table, NumbersRead, BlockRead};
 
-use aec3_common::judge::value_refusal;
+use aec3_common::block::judge_values;
+use aec3_common::entries::change;
+use aec3_common::refusal::Refusal;
+use aec3_common::settings::ErleLimits;
 use aec3_common::{ErleSettings, FFT_LENGTH_BY_2_PLUS_1};
 use encoding::{byte_at, float_of, half_at, word_at};
-
-const SETTINGS_KIND: u32 = 0x0001;
-
-const BLOCK_KIND: u32 = 0x0002;
-
-const RESET_KIND: u32 = 0x0003;
+use std::array;
 
 pub const SETTINGS_LENGTH: usize = 21;
 
 pub const RESET_LENGTH: usize = 3;
 
+// The kinds of records, by the number that each begins with.
+#[derive(Clone, Copy, Debug, PartialEq, Eq)]
+pub enum RecordKind {
+    Settings = 0x0001,
+    Block = 0x0002,
+    Reset = 0x0003,
+}
+
+impl TryFrom<u32> for RecordKind {
+    type Error = Refusal;
+
+    ghost try_from_gives = { KindOf };
+
+    fn try_from(number: u32) -> Result<RecordKind, Refusal> {
+        match number {
+            0x0001 => Ok(RecordKind::Settings),
+            0x0002 => Ok(RecordKind::Block),
+            0x0003 => Ok(RecordKind::Reset),
+            _ => Err(Refusal::UnknownKind),
+        }
+    }
+}
+
 // What a settings record says.
-#[derive(Clone, Copy)]
+#[derive(Clone, Copy, Debug)]
 pub struct SettingsRecord {
     pub min: f32,
     pub max_l: f32,
@@ -34,8 +54,41 @@ pub struct SettingsRecord {
     pub band: usize,
 }
 
+impl SettingsRecord {
+    pub(crate) fn limits(self) -> ErleLimits
+        ensures { result ≡ (record { min = self.min; max_l = self.max_l; max_h = self.max_h }) }
+    {
+        ErleLimits {
+            min: self.min,
+            max_l: self.max_l,
+            max_h: self.max_h,
+        }
+    }
+}
+
+// The settings of the estimator that a settings record starts, which has one section.
+impl From<SettingsRecord> for ErleSettings {
+    ghost from_gives = { λ said settings. settings ≡ erle_settings said };
+
+    #[tactic(auto, unfolding(crate::specs::Records::erle_settings))]
+    fn from(record: SettingsRecord) -> ErleSettings {
+        ErleSettings {
+            min: record.min,
+            max_l: record.max_l,
+            max_h: record.max_h,
+            onset_detection: record.onset_flag == 1,
+            num_capture_channels: record.num_capture_channels,
+            num_sections: 1,
+            filter_length_blocks: 1,
+            delay_headroom_samples: 0,
+            clamp_quality_estimate_to_zero: true,
+            clamp_quality_estimate_to_one: true,
+        }
+    }
+}
+
 // A record by its kind. It holds no flags and numbers of a block; `flags_in` and `read_block` read these.
-#[derive(Clone, Copy)]
+#[derive(Clone, Copy, Debug)]
 pub enum Decoded {
     Settings(SettingsRecord),
     Block,
@@ -75,34 +128,11 @@ fn settings_in(record: &[u8]) -> SettingsRecord
 pub fn decode(record: &[u8]) -> Decoded
     ensures { (standing : Standing) → record_from standing «record».now result ≡ decoded standing «record».now }
 {
-    let kind = half_at(record, 0);
-    if kind == SETTINGS_KIND {
-        Decoded::Settings(settings_in(record))
-    } else if kind == BLOCK_KIND {
-        Decoded::Block
-    } else if kind == RESET_KIND {
-        Decoded::Reset(byte_at(record, 2))
-    } else {
-        Decoded::Unknown
-    }
-}
-
-// The settings of the estimator that a settings record starts, which has one section.
-#[tactic(auto, unfolding(crate::specs::Records::erle_settings))]
-pub fn erle_settings(settings: SettingsRecord) -> ErleSettings
-    ensures { result ≡ erle_settings settings }
-{
-    ErleSettings {
-        min: settings.min,
-        max_l: settings.max_l,
-        max_h: settings.max_h,
-        onset_detection: settings.onset_flag == 1,
-        num_capture_channels: settings.num_capture_channels,
-        num_sections: 1,
-        filter_length_blocks: 1,
-        delay_headroom_samples: 0,
-        clamp_quality_estimate_to_zero: true,
-        clamp_quality_estimate_to_one: true,
+    match RecordKind::try_from(half_at(record, 0)) {
+        Ok(RecordKind::Settings) => Decoded::Settings(settings_in(record)),
+        Ok(RecordKind::Block) => Decoded::Block,
+        Ok(RecordKind::Reset) => Decoded::Reset(byte_at(record, 2)),
+        Err(_) => Decoded::Unknown,
     }
 }
 
@@ -118,45 +148,44 @@ pub(crate) fn block_length(num_capture_channels: usize) -> usize
 pub fn flags_in(record: &[u8], num_capture_channels: usize) -> [bool; 4]
     ensures { result ≡ flag_table num_capture_channels «record».now }
 {
-    let mut flags = [false; 4];
-    for ch in 0..4 {
-        flags[ch] = (ch < num_capture_channels) & flag_at(record, 2 + ch);
-    }
-    flags
+    array::from_fn(|ch| ch < num_capture_channels && flag_at(record, 2 + ch))
 }
 
 // The number whose bits are in four bytes, the lowest first.
-fn value_of(b0: u8, b1: u8, b2: u8, b3: u8) -> f32
-    ensures { result ≡ of_bits binary32 (b0 + 256 * b1 + 65536 * (b2 + 256 * b3)) }
+#[tactic(auto, unfolding(crate::specs::Records::value_at))]
+fn value_of(bytes: [u8; 4]) -> f32
+    ensures { result ≡ value_at bytes 0 }
 {
-    float_of(b0 as u32 + 256 * (b1 as u32) + 65536 * (b2 as u32) + 16777216 * (b3 as u32))
+    float_of(u32::from_le_bytes(bytes))
 }
 
 // The numbers of a block of four channels.
 pub const MOST_VALUES: usize = 585;
 
-// Reads the 65 numbers that begin at a place of a record into a table, from an index on. The bytes are read here, with no test of where the record
-// ends.
+// Reads the 65 numbers that begin at a place of a record into a table, from an index on.
 fn read_spectrum(record: &[u8], place: usize, values: &mut [f32; MOST_VALUES], from: usize)
     requires place_in_record { place + 260 ≤ length «record».now }
-    requires from_in_values { (from + 65 ≤ 585) × (length values.old ≡ 585) }
+    requires from_in_values { from + 65 ≤ 585 }
     ensures { NumbersRead «record».now place values.old from 65 values.new }
 {
-    for k in 0..FFT_LENGTH_BY_2_PLUS_1 {
-        let i = place + 4 * k;
-        values[from + k] = value_of(record[i], record[i + 1], record[i + 2], record[i + 3]);
-    }
+    let (fours, _) = record[place..place + 260].as_chunks::<4>();
+    change(
+        values,
+        from,
+        from + FFT_LENGTH_BY_2_PLUS_1,
+        |k, _| value_of(fours[k - from]),
+    );
 }
 
-// Reads all numbers of a block into a table: render power, then the captures of all channels, then the residuals of all channels. Answers 6 where one
-// of them is out of range, or 0.
+// Reads all numbers of a block into a table: render power, then the captures of all channels, then the residuals of all channels. Turned away under 6
+// where one of them is out of range.
 pub fn read_block(
     record: &[u8],
     num_capture_channels: usize,
     values: &mut [f32; MOST_VALUES],
-) -> u32
-    requires { (length «record».now ≡ block_length num_capture_channels) × (num_capture_channels ≤ 4) × (length values.old ≡ 585) }
-    ensures { BlockRead num_capture_channels «record».now values.new result }
+) -> Result<(), Refusal>
+    requires { (length «record».now ≡ block_length num_capture_channels) × (num_capture_channels ≤ 4) }
+    ensures { BlockRead num_capture_channels «record».now values.new (number_of result) }
 {
     let render_place = 2 + num_capture_channels;
     let residuals = 65 + 65 * num_capture_channels;
@@ -168,5 +197,5 @@ pub fn read_block(
         read_spectrum(record, place + 260, values, residuals + own);
     }
     let count = 65 + 130 * num_capture_channels;
-    value_refusal(&values[..count])
+    judge_values(&values[..count])
 }

@@ -9,11 +9,12 @@ use lib.Dec.{eqb, leb}
 use lib.Ieee.{of_bits, le, lt, eq}
 use Rattle.aec3_common.specs.Binary32.{zero32}
 use Rattle.aec3_common.specs.Calls.{value_refusal}
-use Rattle.aec3_common.specs.Lists.{tab, every}
+use Rattle.std.specs.List.{list_all}
+use Rattle.aec3_common.specs.Lists.{tab}
 use Rattle.aec3_common.specs.Refusal.{first_of, accepted}
 use Rattle.aec3_common.specs.Settings.{sections_ok, sectioned_settings_refusal, settings_refusal}
 use Rattle.aec3_common.proofs.Choices.{and_left, and_right}
-use Rattle.aec3_common.proofs.Every.{every-by}
+use Rattle.aec3_common.proofs.Every.{list_all-by}
 use Rattle.aec3_common.proofs.Values.{accepted-behind, no-values, copies-accepted}
 use Rattle.aec3_common.proofs.Tables.{length-tab, get_or-tab}
 use Rattle.section_echoes.specs.Packed.{total}
@@ -48,7 +49,7 @@ total-none (suc n) = omega (arith, total-none n)
 
 -- the ring that is lent holds zeros, which are accepted
 zero-accepted : value_refusal (zero32 ∷ []) ≡ accepted
-unfolding value_refusal every of_bits le lt eq
+unfolding value_refusal of_bits le lt eq
 zero-accepted = refl
 
 module _ (n : ℕ) (r : List ℕ) where
@@ -70,9 +71,9 @@ module _ (n : ℕ) (r : List ℕ) where
         total-none n,
       )
     where
-      none_above : every (λ k. leb k filter_length) (tab n none) ≡ true
+      none_above : list_all (λ k. leb k filter_length) (tab n none) ≡ true
       none_above =
-          every-by (λ k. leb k filter_length) (tab n none) 0
+          list_all-by (λ k. leb k filter_length) (tab n none) 0
           (λ k h. rw (get_or-tab n none k 0 (omega (arith, length-tab n none))) (le-leb 0 filter_length (omega arith)))
 
   -- and only the record's own values can be turned away

@@ -7,10 +7,11 @@ use native.Mathlib.Omega.{arith}
 use borrow.Author.Tests.{eqb-true, leb-true}
 use lib.Dec.{eqb}
 use lib.ListN.{length}
-use Rattle.aec3_common.specs.Lists.{tab, every}
+use Rattle.std.specs.List.{list_all}
+use Rattle.aec3_common.specs.Lists.{tab}
 use Rattle.aec3_common.specs.Refusal.{accepted}
 use Rattle.aec3_common.proofs.Choices.{and_right, cond_has}
-use Rattle.aec3_common.proofs.Every.{every-by, every-append}
+use Rattle.aec3_common.proofs.Every.{list_all-by, list_all-append}
 use Rattle.aec3_common.proofs.Limits.{between-most}
 use Rattle.aec3_common.proofs.Tables.{length-tab, get_or-tab}
 use Rattle.erle_estimator.specs.declared.ErleEstimator.{ErleEstimator}
@@ -65,10 +66,10 @@ row-ok e good band number ch h l =
     )
 
 -- the rows of a block
-rows-ok : (t : Trace) → Printing t → every figures_ok (block_rows t) ≡ true
+rows-ok : (t : Trace) → Printing t → list_all figures_ok (block_rows t) ≡ true
 unfolding block_rows
 rows-ok t p =
-    every-by figures_ok rows (refused 0 0)
+    list_all-by figures_ok rows (refused 0 0)
     (λ ch h.
     let inside : ch < n = omega (arith, length-tab n (row_at t.estimator t.band t.blocks)) in
     rw (get_or-tab n (row_at t.estimator t.band t.blocks) ch (refused 0 0) inside) (of-channel p.sound ch inside))
@@ -83,23 +84,23 @@ rows-ok t p =
     of-channel (idle none) ch h = absurd (omega arith)
     of-channel (going good section flat) ch h = row-ok t.estimator good t.band t.blocks ch h p.band
 
-rows-of-ok : (t : Trace) (r : Record) → Printing (next_of t r) → every figures_ok (rows_of t r) ≡ true
-unfolding rows_of every
+rows-of-ok : (t : Trace) (r : Record) → Printing (next_of t r) → list_all figures_ok (rows_of t r) ≡ true
+unfolding rows_of
 rows-of-ok t (settings x) p = refl
 rows-of-ok t (block b) p = rows-ok (next_of t (block b)) p
 rows-of-ok t (reset delay_flag) p = refl
 rows-of-ok t unknown p = refl
 
 -- what records give
-items-ok : (fs : List Frame) (t : Trace) → Printing t → every figures_ok (items_of t fs) ≡ true
-unfolding items_of every
+items-ok : (fs : List Frame) (t : Trace) → Printing t → list_all figures_ok (items_of t fs) ≡ true
+unfolding items_of
 items-ok [] t p = refl
 items-ok (bad ∷ fs) t p = refl
 items-ok (whole s ∷ fs) t p =
-    cond_has (λ (items : List Item). every figures_ok items ≡ true) (eqb (refusal_at t s) accepted)
+    cond_has (λ (items : List Item). list_all figures_ok items ≡ true) (eqb (refusal_at t s) accepted)
     (λ e.
     let next = printing-next t s p (eqb-true (refusal_at t s) accepted e) in
-    every-append figures_ok (rows_of t (record_at t s)) (items_of (next_of t (record_at t s)) fs)
+    list_all-append figures_ok (rows_of t (record_at t s)) (items_of (next_of t (record_at t s)) fs)
     ∙ simp (rows-of-ok t (record_at t s) next, items-ok fs (next_of t (record_at t s)) next))
     (λ e. refl)
 

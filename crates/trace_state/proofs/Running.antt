@@ -15,9 +15,9 @@ use Rattle.aec3_common.specs.Settings.{settings_refusal}
 use Rattle.aec3_common.proofs.Limits.{InBinary32}
 use Rattle.aec3_common.proofs.Ranges.{from-lo}
 use Rattle.erle_estimator.specs.declared.ErleEstimator.{ErleEstimator}
-use Rattle.erle_estimator.specs.Erle.{Update, state_ok, state_refusal, started_with, refused_settings, after_reset, after_accepted, update_refusal, start_answer, update_answer, reset_answer}
+use Rattle.erle_estimator.specs.Erle.{Update, state_ok, state_refusal, started_with, refused_settings, after_reset, after_accepted, update_refusal, update_answer, reset_answer}
 use Rattle.erle_estimator.proofs.Runs.{update-settings}
-use Rattle.erle_estimator.proofs.Good.{Good, good-ok, start-good, update-good, reset-good}
+use Rattle.erle_estimator.proofs.Good.{Good, good-ok, started-good, update-good, reset-good}
 use Rattle.trace_records.specs.declared.judge.Standing.{Standing}
 use Rattle.trace_records.specs.declared.records.SettingsRecord.{SettingsRecord}
 use Rattle.trace_records.specs.Records.{Record, settings, block, reset, unknown, is_set, erle_settings, settings_in, block_in, delay_flag_in, value_at, kind_of, settings_kind, block_kind, reset_kind, decoded}
@@ -30,10 +30,6 @@ use Rattle.trace_state.specs.Along.{state_along, standing_along, JudgedAlone}
 use Rattle.trace_state.proofs.Judged.{start-judged, update-judged}
 
 -- ---- the estimator's answers where it accepts
-
-pub start-state : (startup : ℕ) (g : ErleSettings) → settings_refusal g ≡ accepted → (start_answer startup g).state ≡ started_with startup 0 g
-unfolding start_answer
-start-state startup g ok = rw (eq-eqb (settings_refusal g) accepted ok)
 
 pub update-state : (e : ErleEstimator) (u : Update) → update_refusal e u ≡ accepted → (update_answer e u).state ≡ after_accepted e u
 unfolding update_answer
@@ -115,7 +111,7 @@ module _ (t : Trace) (s : List ℕ) where
 
   -- an accepted record keeps it
   pub sound-next : Sound e → refusal_at t s ≡ accepted → Sound (next_of t (record_at t s)).estimator
-  unfolding next_of started_with start_answer erle_settings after_reset
+  unfolding next_of started_with erle_settings after_reset
   sound-next sound =
       by-kinds (standing_of t) s (λ r. Passes r → Sound (next_of t r).estimator) of-settings of-block of-reset
       (λ ok. absurd (unknown-refused (standing_of t) (length s) ok))
@@ -124,7 +120,7 @@ module _ (t : Trace) (s : List ℕ) where
       of-settings ok =
           let x = settings_in s in
           let fine = started x ok in
-          going (subst Good (start-state x.startup (erle_settings x) fine) (start-good x.startup (erle_settings x) (values-held s) fine)) refl refl
+          going (started-good x.startup 0 (erle_settings x) (values-held s) fine) refl refl
 
       of-block : Passes (block (block_in (channels_of e) s)) → Sound (after_accepted e (update_in (channels_of e) (block_in (channels_of e) s)))
       of-block ok =

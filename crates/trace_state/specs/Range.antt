@@ -1,7 +1,7 @@
 -- The range that every printed figure keeps.
 use Rattle.std.specs.Prelude.{◌≡◌, Bool, true, ◌&&◌, List, ℕ, Float}
 use Rattle.aec3_common.specs.Binary32.{one32, number_from}
-use Rattle.aec3_common.specs.Lists.{every}
+use Rattle.std.specs.List.{list_all}
 use Rattle.aec3_common.specs.Settings.{greatest_erle}
 use Rattle.trace_records.specs.Frames.{frames}
 use Rattle.trace_text.specs.Text.{Item, row, refused}
@@ -22,7 +22,7 @@ figures_ok (refused number record_number) = true
 --
 -- Phrase by phrase:
 -- "the listing of any bytes" -> s, any list; a listing is the header and the lines of these items (of `beginning` they are `items_in s`)
--- "in every row" -> every, by figures_ok
+-- "in every row" -> list_all, by figures_ok
 -- "the three figures are numbers from 1 to 100,000" -> printed_ok of each
 unfoldable pub RowsInRange : Trace → Type 0
-RowsInRange t = (s : List ℕ) → every figures_ok (items_of t (frames s)) ≡ true
+RowsInRange t = (s : List ℕ) → list_all figures_ok (items_of t (frames s)) ≡ true

@@ -9,7 +9,7 @@ ghost use Rattle.trace_state.specs.Range.{RowsInRange};
 use crate::Trace;
 use aec3_common::counts::one_more;
 use erle_estimator::{refused_settings, started_with};
-use trace_records::{Decoded, SettingsRecord, decode, erle_settings};
+use trace_records::{Decoded, SettingsRecord, decode};
 
 // Before the first record: the estimator of a refused start. Whatever bytes follow, 20 lets every state pass, and every printed figure is in range.
 pub fn beginning() -> Trace
@@ -17,9 +17,8 @@ pub fn beginning() -> Trace
     ensures judged_alone { JudgedAlone result }
     ensures rows_in_range { RowsInRange result }
 {
-    let estimator = started_with(0, 0, refused_settings());
     Trace {
-        estimator,
+        estimator: started_with(0, 0, refused_settings()),
         band: 0,
         blocks: 0,
         records: 0,
@@ -47,9 +46,8 @@ pub fn state_ok(t: Trace) -> bool
 fn after_settings(t: Trace, settings: SettingsRecord) -> Trace
     ensures { result ≡ next_of t (Record·settings settings) }
 {
-    let estimator = started_with(settings.startup, 0, erle_settings(settings));
     Trace {
-        estimator,
+        estimator: started_with(settings.startup, 0, settings.into()),
         band: settings.band,
         blocks: t.blocks,
         records: one_more(t.records),
@@ -62,14 +60,11 @@ fn after_settings(t: Trace, settings: SettingsRecord) -> Trace
 fn after_reset(t: Trace, delay_flag: u32) -> Trace
     ensures { result ≡ next_of t (Record·reset delay_flag) }
 {
-    let before = t.estimator;
-    let estimator = before.restarted(delay_flag == 1);
     Trace {
-        estimator,
-        band: t.band,
-        blocks: t.blocks,
+        estimator: t.estimator.restarted(delay_flag == 1),
         records: one_more(t.records),
         rows_due: 0,
+        ..t
     }
 }
 
@@ -79,11 +74,9 @@ pub fn after_record(t: Trace, record: &[u8]) -> Trace
     requires { is_block (record_at t «record».now) ≡ false }
     ensures { result ≡ next_of t (record_at t «record».now) }
 {
-    let decoded = decode(record);
-    match decoded {
+    match decode(record) {
         Decoded::Settings(settings) => after_settings(t, settings),
         Decoded::Reset(delay_flag) => after_reset(t, delay_flag),
-        Decoded::Block => t,
-        Decoded::Unknown => t,
+        Decoded::Block | Decoded::Unknown => t,
     }
 }

@@ -1,6 +1,9 @@
-// How the body of an update lies in its record: that of a part of the ERLE estimator, and that of an estimator that reads
-// the ring of spectra. No function asks anything of its caller.
+// What an update's record holds behind its kind: that of a part of the ERLE estimator, and that of an estimator that reads the
+// ring of spectra. No function asks anything of its caller.
 #![tactic(auto)]
 
-pub mod part;
-pub mod ring;
+mod block;
+mod ring;
+
+pub use block::BlockLists;
+pub use ring::RingLists;

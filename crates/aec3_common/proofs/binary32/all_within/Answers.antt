@@ -1,15 +1,16 @@
-use lib.Ieee.{nan}
-use Rattle.aec3_common.proofs.Every.{tested-none, tested-more, tested-four, tested-all}
+use Rattle.std.proofs.Common.{◌/◌, length, []}
+use Rattle.aec3_common.specs.Binary32.{within}
+use Rattle.aec3_common.proofs.Every.{tested-none, tested-more, tested-all, list_all-chunks}
 use Rattle.aec3_common.proofs.binary32.all_within.Goals as goal
 
-pub loop-k-init : goal.loop-k-init
-loop-k-init c = tested-none _ _
+pub loop-four-init : goal.loop-four-init
+loop-four-init c = tested-none _ _
 
-pub loop-k-preserved-then-xs-k-ge4 : goal.loop-k-preserved-then-xs-k-ge4
-loop-k-preserved-then-xs-k-ge4 c = tested-four c.loop-k.invariant c.if-xs-k-ge4.true c.four_within-ok.ensures
-
-pub loop-k-preserved : goal.loop-k-preserved
-loop-k-preserved c = tested-more nan c.loop-k.invariant c.loop-k-test.true c.is_within-ok.ensures
+pub loop-four-preserved : goal.loop-four-preserved
+loop-four-preserved c = tested-more [] c.loop-four.invariant c.loop-four-test.true c.four_within-ok.ensures
 
 pub returns : goal.returns
-returns c = tested-all c.loop-k.invariant c.loop-k-test.false
+returns c =
+    let fours = tested-all c.loop-four.invariant c.loop-four-test.false in
+    rw (fours, c.each_within.ensures, c.as_chunks.ensures.front, c.as_chunks.ensures.back)
+    (list_all-chunks (within c.args.hi) 4 (length c.args.xs.now / 4) c.args.xs.now)

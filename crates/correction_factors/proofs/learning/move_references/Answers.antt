@@ -1,5 +1,11 @@
-use Rattle.aec3_common.proofs.Tables.{stored-all}
+use Rattle.std.proofs.Common.{rules}
+use Rattle.std.specs.Float.{nan}
+use Rattle.correction_factors.specs.Steps.{lesson_at, moved_in}
+use Rattle.aec3_common.proofs.Changes.{changed-all}
 use Rattle.correction_factors.proofs.learning.move_references.Goals as goal
 
 pub returns : goal.returns
-returns c = stored-all c.loop-s.invariant c.loop-s-test.false
+returns c =
+    let a = c.args in
+    changed-all nan (λ s erle. moved_in a.limits.min a.limits.max_l a.limits.max_h s (lesson_at a.lessons.now s) erle)
+    c.change.ensures (search rules) (λ k x y h r. search rules)

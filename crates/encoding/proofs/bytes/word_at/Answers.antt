@@ -1,12 +1,10 @@
--- Within the slice the two halves are the definition's; past its end they are 0.
-use Rattle.std.proofs.Common.{rules, sym}
+-- The place after the greatest is past the end, as the greatest is.
+use Rattle.std.proofs.Common.{arith}
 use Rattle.encoding.specs.Bytes.{word_at}
-use Rattle.encoding.proofs.Past.{word-past}
+use Rattle.encoding.proofs.Past.{half-beyond}
 use Rattle.encoding.proofs.bytes.word_at.Goals as goal
 
-pub returns-then-i-s : goal.returns-then-i-s
+pub returns : goal.returns
 unfolding word_at
-returns-then-i-s c = search rules
-
-pub returns-else-i-s : goal.returns-else-i-s
-returns-else-i-s c = sym (word-past _ _ c.if-i-s.false)
+returns c =
+    omega (arith, c.half_at-low.ensures, c.half_at-high.ensures, half-beyond c.args.s.now _ _ _ (omega arith) c.saturating_add.ensures)

@@ -5,6 +5,3 @@ use Rattle.encoding.proofs.text.hex_digits.Given as goal
 
 abbrev pub invariant-loop-from : goal.invariant-loop-from
 invariant-loop-from l = Spelt 8 (hex_digits l.from l.rest) (hex8 l.n) l.text l.from
-
-abbrev pub decreases-loop-from : goal.decreases-loop-from
-decreases-loop-from l = l.from

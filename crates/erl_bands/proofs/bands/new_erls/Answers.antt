@@ -1,13 +1,11 @@
-use Rattle.aec3_common.proofs.Loops.{loops}
-use Rattle.erl_bands.specs.Steps.{new_erls}
+use Rattle.std.proofs.Common.{rules, get_or}
+use Rattle.std.specs.Float.{nan}
+use Rattle.erl_bands.specs.Steps.{new_erl, new_erls}
+use Rattle.erl_bands.proofs.Steps.{made_by}
 use Rattle.erl_bands.proofs.bands.new_erls.Goals as goal
-
-pub loop-k-init : goal.loop-k-init
-loop-k-init c = search loops
-
-pub loop-k-preserved : goal.loop-k-preserved
-loop-k-preserved c = search loops
 
 pub returns : goal.returns
 unfolding new_erls
-returns c = search loops
+returns c =
+    made_by nan (λ k. new_erl (get_or c.args.render.now k nan) (get_or c.args.capture.now k nan))
+    c.from_fn.ensures.items (λ k y q called. (search rules, search rules))

@@ -1,15 +1,11 @@
-use Rattle.std.proofs.Common.{◌∙◌, arith}
-use Rattle.aec3_common.proofs.Tables.{stored-none, stored_more, stored-not-yet, stored-all}
+use Rattle.std.proofs.Common.{rules, get_or}
+use Rattle.std.specs.Float.{nan}
+use Rattle.aec3_common.proofs.Changes.{changed-all}
+use Rattle.erle_bands.specs.Band.{sum_with}
 use Rattle.erle_bands.specs.Steps.{sums_with}
 use Rattle.erle_bands.proofs.sums.add_powers.Goals as goal
 
-pub loop-k-init : goal.loop-k-init
-loop-k-init c = stored-none _ _ _ _ _ (omega arith) c.requires.0
-
-pub loop-k-preserved : goal.loop-k-preserved
-loop-k-preserved c =
-    stored_more _ c.loop-k.invariant c.loop-k-test.true (omega arith) (c.sum_with.ensures ∙ simp (stored-not-yet c.loop-k.invariant))
-
 pub returns : goal.returns
 unfolding sums_with
-returns c = stored-all c.loop-k.invariant c.loop-k-test.false
+returns c =
+    changed-all nan (λ k sum. sum_with c.args.anew sum (get_or c.args.powers.now k nan)) c.change.ensures (search rules) (λ k x y h r. search rules)

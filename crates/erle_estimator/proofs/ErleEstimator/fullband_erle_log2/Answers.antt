@@ -8,4 +8,4 @@ pub returns-then-ok : goal.returns-then-ok
 unfolding log2_answer state_refusal FullBand·log2_answer FullBand·state_refusal
 returns-then-ok c =
     let ok = sym c.ok.ensures ∙ c.if-ok.true in
-    c.fullband_erle_log2.ensures ∙ simp (c.fullband_part-part.ensures, fullband-passed c.args.self ok, ok)
+    c.fullband_erle_log2.ensures ∙ simp (c.fullband_part.ensures, fullband-passed c.args.self ok, ok)

@@ -8,4 +8,4 @@ pub returns-then-ok : goal.returns-then-ok
 unfolding quality_answer state_refusal FullBand·quality_answer FullBand·state_refusal
 returns-then-ok c =
     let ok = sym c.ok.ensures ∙ c.if-ok.true in
-    c.linear_quality_estimate.ensures ∙ simp (c.fullband_part-part.ensures, fullband-passed c.args.self ok, ok)
+    c.linear_quality_estimate.ensures ∙ simp (c.fullband_part.ensures, fullband-passed c.args.self ok, ok)

@@ -17,16 +17,16 @@ pub move_subband-requires-clause-x2_len : goal.move_subband-requires-clause-x2_l
 move_subband-requires-clause-x2_len c =
     let fits = c.requires.fits in (
       fits.render,
-      ap length c.part-own_y2.ensures ∙ part_length _ _ (omega (arith, fits.capture)),
-      ap length c.part-own_e2.ensures ∙ part_length _ _ (omega (arith, fits.residual)),
+      ap length c.own_y2-y2.ensures ∙ part_length _ _ (omega (arith, fits.capture)),
+      ap length c.own_e2-e2.ensures ∙ part_length _ _ (omega (arith, fits.residual)),
     )
 
 pub fullband_channel-requires : goal.fullband_channel-requires
 fullband_channel-requires c =
     let fits = c.requires.fits in (
       rw (stored-not-yet c.loop-ch.invariant.fullband) (c.requires.held.points_fullband c.loop-ch.ch c.loop-ch-test.true),
-      ap length c.part-own_y2.ensures ∙ part_length _ _ (omega (arith, fits.capture)),
-      ap length c.part-own_e2.ensures ∙ part_length _ _ (omega (arith, fits.residual)),
+      ap length c.own_y2-y2.ensures ∙ part_length _ _ (omega (arith, fits.capture)),
+      ap length c.own_e2-e2.ensures ∙ part_length _ _ (omega (arith, fits.residual)),
     )
 
 pub loop-ch-preserved : goal.loop-ch-preserved
@@ -36,15 +36,16 @@ loop-ch-preserved c =
     let ch : ℕ = c.loop-ch.ch in
     let s : ErleEstimator = a.self.now in
     let fits = c.requires.fits in
-    let flags : ch < length a.converged_filters.now = omega (arith, fits.flags) in
-    powers-more s a.converged_filters.now a.x2.now a.y2.now a.e2.now done (omega (arith, fits.count)) (omega (arith, fits.count, fits.few))
+    let b = a.block.now in
+    let flags : ch < length b.converged_filters.now = omega (arith, fits.flags) in
+    powers-more s b.converged_filters.now b.x2.now b.y2.now b.e2.now done (omega (arith, fits.count)) (omega (arith, fits.count, fits.few))
     (c.move_subband.ensures
-    ∙ subband-is s a.converged_filters.now a.x2.now a.y2.now a.e2.now ch c.subband_settings-subband_part.ensures
-    c.part-own_y2.ensures c.part-own_e2.ensures (stored-not-yet done.subband))
+    ∙ subband-is s b.converged_filters.now b.x2.now b.y2.now b.e2.now ch c.from-subband_part.ensures
+    c.own_y2-y2.ensures c.own_e2-e2.ensures (stored-not-yet done.subband))
     (c.fullband_channel.ensures
-    ∙ fullband-is s a.converged_filters.now a.x2.now a.y2.now a.e2.now ch
-    (c.min_erle_log2-min_erle_log2.ensures ∙ ap min_log2 c.fullband_settings-fullband_part.ensures) c.is_loud-loud.ensures
-    c.part-own_y2.ensures c.part-own_e2.ensures flags (stored-not-yet done.fullband))
+    ∙ fullband-is s b.converged_filters.now b.x2.now b.y2.now b.e2.now ch
+    (c.min_erle_log2-min_erle_log2.ensures ∙ ap min_log2 c.from.ensures) c.is_loud-loud.ensures
+    c.own_y2-y2.ensures c.own_e2-e2.ensures flags (stored-not-yet done.fullband))
 
 pub returns : goal.returns
 returns c = powers-all c.args.self.now _ c.loop-ch.invariant (omega (arith, c.requires.fits.count))

@@ -4,4 +4,5 @@ use Rattle.erle_estimator.proofs.Updates.{MovingByPowers}
 use Rattle.erle_estimator.proofs.ErleEstimator.move_by_powers.Given as goal
 
 abbrev pub invariant-loop-ch : goal.invariant-loop-ch
-invariant-loop-ch l = MovingByPowers l.fn.self l.converged_filters l.x2 l.y2 l.e2 l.self l.ch
+invariant-loop-ch l =
+    MovingByPowers l.fn.self l.block.converged_filters.now l.block.x2.now l.block.y2.now l.block.e2.now l.self l.ch

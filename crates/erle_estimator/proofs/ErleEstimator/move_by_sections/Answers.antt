@@ -10,8 +10,8 @@ loop-ch-init c = sections-none _ _ _ _ (search (rules, length-mapped))
 pub update-requires-clause-y2_len : goal.update-requires-clause-y2_len
 update-requires-clause-y2_len c =
     let fits = c.requires.fits in (
-      ap length c.part.ensures ∙ part_length _ _ (omega (arith, fits.capture)),
-      ap length c.part-in-loop-ch.ensures ∙ part_length _ _ (omega (arith, fits.residual)),
+      ap length c.own_y2.ensures ∙ part_length _ _ (omega (arith, fits.capture)),
+      ap length c.own_e2.ensures ∙ part_length _ _ (omega (arith, fits.residual)),
       search (rules, length-mapped),
       search (rules, length-mapped),
     )
@@ -22,7 +22,7 @@ loop-ch-preserved c =
     let fits = c.requires.fits in
     sections-more _ _ done (omega (arith, fits.count)) (omega (arith, fits.count, fits.few))
     (c.update.ensures
-    ∙ rw (c.signal_settings-signal_part.ensures, c.part.ensures, c.part-in-loop-ch.ensures, stored-not-yet done.signal, sections-own _ _ done) refl)
+    ∙ rw (c.from-signal_part.ensures, c.own_y2.ensures, c.own_e2.ensures, stored-not-yet done.signal, sections-own _ _ done) refl)
 
 pub returns : goal.returns
 returns c = sections-all _ _ c.loop-ch.invariant (omega (arith, c.requires.fits.count)) c.subband_sums-x2_subbands.ensures

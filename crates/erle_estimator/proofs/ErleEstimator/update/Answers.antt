@@ -1,4 +1,6 @@
-use Rattle.std.proofs.Common.{◌≡◌, ℕ, ◌<◌, Bool, true, ◌&&◌, List, [], length, get_or, sym, ◌∙◌, rules, arith, eq-eqb, ne_eqb}
+use Rattle.std.proofs.Common.{◌≡◌, ℕ, ◌<◌, Bool, true, ◌&&◌, List, [], length, get_or, sym, ◌∙◌, rules, arith, Result, is_ok, eqb-true}
+use Rattle.aec3_common.specs.declared.refusal.Refusal.{Refusal}
+use Rattle.aec3_common.specs.Answers.{number_of}
 use Rattle.aec3_common.specs.Calls.{value_refusal}
 use Rattle.aec3_common.specs.Refusal.{accepted, lesser}
 use Rattle.aec3_common.specs.Settings.{headroom_blocks}
@@ -6,7 +8,7 @@ use Rattle.aec3_common.proofs.Choices.{and-true}
 use Rattle.aec3_common.proofs.Values.{lesser-none}
 use Rattle.aec3_common.proofs.Tables.{length-mapped}
 use Rattle.section_echoes.specs.Steps.{all_active}
-use Rattle.subband_erle_estimator.proofs.Judged.{points-few}
+use Rattle.subband_erle_estimator.proofs.Judged.{outcome-told, points-few}
 use Rattle.signal_dependent_erle_estimator.specs.declared.settings.SignalDependentSettings.{SignalDependentSettings}
 use Rattle.signal_dependent_erle_estimator.specs.SignalDependent.{refusal_by}
 use Rattle.signal_dependent_erle_estimator.proofs.Judged.{one-section, eight-sections}
@@ -33,6 +35,10 @@ unfolding update_refusal
 refused-by s u passes given e =
     sym (e ∙ (λ i.
     refusal_by (passes i) (given i) u (and-true (lent_lengths_ok (given i).filter_length_blocks u) i) (lesser-none (value_refusal (lent_values u)) i)))
+
+-- an outcome that is no refusal has number 0
+passed : (r : Result (Unit {0}) Refusal) → is_ok r ≡ true → number_of r ≡ accepted
+passed r ok = eqb-true (number_of r) accepted (outcome-told r ∙ ok)
 
 -- ---- an accepted update
 
@@ -77,39 +83,39 @@ module _
 
 pub active_sections-active-requires : goal.active_sections-active-requires
 active_sections-active-requires c =
-    let told = refused-by c.args.self _ c.ok.ensures c.signal_settings-signal_part.ensures c.refusal_beside-refused.ensures in
-    let a = accepted-call _ _ (told ∙ c.if-refused-eq-ACCEPTED.true) in
+    let told = refused-by c.args.self _ c.ok.ensures c.from-signal_part.ensures c.judge_beside-outcome.ensures in
+    let a = accepted-call _ _ (told ∙ passed c.judge_beside-outcome.result (sym c.is_ok.ensures.value ∙ c.if-is_ok.true)) in
     record {
       ring_fits = a.lent.ring;
-      delay_headroom_samples_bound = rw c.signal_settings-signal_part.ensures (found-asks (signal_part c.args.self) _ a.lent);
+      delay_headroom_samples_bound = rw c.from-signal_part.ensures (found-asks (signal_part c.args.self) _ a.lent);
       response_blocks_value = (a.lent.blocks, a.lent.responses);
     }
 
 pub advance-requires : goal.advance-requires
 advance-requires c =
-    let told = refused-by c.args.self _ c.ok.ensures c.signal_settings-signal_part.ensures c.refusal_beside-refused.ensures in
-    let a = accepted-call _ _ (told ∙ c.if-refused-eq-ACCEPTED.true) in
+    let told = refused-by c.args.self _ c.ok.ensures c.from-signal_part.ensures c.judge_beside-outcome.ensures in
+    let a = accepted-call _ _ (told ∙ passed c.judge_beside-outcome.result (sym c.is_ok.ensures.value ∙ c.if-is_ok.true)) in
     record {
-      fits = block-fits a c.signal_settings-signal_part.ensures c.active_sections-active.ensures;
-      held = points-fit a c.signal_settings-signal_part.ensures c.active_sections-active.ensures (search (rules, length-mapped)) (search (rules, length-mapped));
-      sections = sections-fit a c.signal_settings-signal_part.ensures c.active_sections-active.ensures;
+      fits = block-fits a c.from-signal_part.ensures c.active_sections-active.ensures;
+      held = points-fit a c.from-signal_part.ensures c.active_sections-active.ensures (search (rules, length-mapped)) (search (rules, length-mapped));
+      sections = sections-fit a c.from-signal_part.ensures c.active_sections-active.ensures;
     }
 
 -- ---- the answer
 
-pub returns-then-refused-eq-ACCEPTED : goal.returns-then-refused-eq-ACCEPTED
+pub returns-then-is_ok : goal.returns-then-is_ok
 unfolding update_answer
-returns-then-refused-eq-ACCEPTED c =
-    let told = refused-by c.args.self _ c.ok.ensures c.signal_settings-signal_part.ensures c.refusal_beside-refused.ensures in
-    let a = accepted-call _ _ (told ∙ c.if-refused-eq-ACCEPTED.true) in
+returns-then-is_ok c =
+    let told = refused-by c.args.self _ c.ok.ensures c.from-signal_part.ensures c.judge_beside-outcome.ensures in
+    let a = accepted-call _ _ (told ∙ passed c.judge_beside-outcome.result (sym c.is_ok.ensures.value ∙ c.if-is_ok.true)) in
     simp (
       told,
-      eq-eqb _ _ c.if-refused-eq-ACCEPTED.true,
-      c.advance.ensures ∙ found-is a c.signal_settings-signal_part.ensures c.active_sections-active.ensures,
+      outcome-told c.judge_beside-outcome.result ∙ sym c.is_ok.ensures.value ∙ c.if-is_ok.true,
+      c.advance.ensures ∙ found-is a c.from-signal_part.ensures c.active_sections-active.ensures,
     )
 
-pub returns-else-refused-eq-ACCEPTED : goal.returns-else-refused-eq-ACCEPTED
+pub returns-else-is_ok : goal.returns-else-is_ok
 unfolding update_answer
-returns-else-refused-eq-ACCEPTED c =
-    let told = refused-by c.args.self _ c.ok.ensures c.signal_settings-signal_part.ensures c.refusal_beside-refused.ensures in
-    simp (told, ne_eqb _ _ c.if-refused-eq-ACCEPTED.false)
+returns-else-is_ok c =
+    let told = refused-by c.args.self _ c.ok.ensures c.from-signal_part.ensures c.judge_beside-outcome.ensures in
+    simp (told, outcome-told c.judge_beside-outcome.result ∙ sym c.is_ok.ensures.value ∙ c.if-is_ok.false)

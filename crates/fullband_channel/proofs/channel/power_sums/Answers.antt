@@ -1,17 +1,12 @@
-use Rattle.std.proofs.Common.{arith}
-use Rattle.aec3_common.proofs.Sums.{summed-none, summed-more, summed-all}
+use Rattle.std.proofs.Common.{rules, ◌∙◌}
+use Rattle.std.proofs.lemmas.Iterator.{YieldsList-from_slice, YieldsList-from_zip}
+use Rattle.std.proofs.lemmas.Iterator.Consumers.{fold_from_yields_List}
+use Rattle.fullband_channel.proofs.Sums.{with_both, both-sums}
 use Rattle.fullband_channel.proofs.channel.power_sums.Goals as goal
-
-pub loop-k-init : goal.loop-k-init
-loop-k-init c = record { capture = summed-none _; residual = summed-none _ }
-
-pub loop-k-preserved : goal.loop-k-preserved
-loop-k-preserved c =
-    record {
-      capture = summed-more c.loop-k.invariant.capture (omega arith);
-      residual = summed-more c.loop-k.invariant.residual (omega arith);
-    }
 
 pub returns : goal.returns
 returns c =
-    simp (summed-all c.loop-k.invariant.capture (omega arith), summed-all c.loop-k.invariant.residual (omega arith))
+    fold_from_yields_List _ with_both _ _ c.fold.ensures.ran
+    (YieldsList-from_zip (YieldsList-from_slice c.args.y2.now cc) (YieldsList-from_slice c.args.e2.now cc))
+    (λ a x b q k. search rules)
+    ∙ both-sums _ c.args.y2.now c.args.e2.now c.requires

@@ -1,10 +1,8 @@
--- The channels before this one have their active sections. The measure is the channels left.
-use Rattle.std.proofs.Common.{length, ◌-◌}
+-- The channels before this one have their active sections.
 use Rattle.section_echoes.proofs.EachChannel.{Going}
 use Rattle.section_echoes.proofs.channels.all_active_sections.Given as goal
 
 abbrev pub invariant-loop-ch : goal.invariant-loop-ch
-invariant-loop-ch l = Going l.ring l.spectra l.headroom l.boundaries l.sections l.counts l.responses l.r l.render l.made_for l.at l.ch
-
-abbrev pub decreases-loop-ch : goal.decreases-loop-ch
-decreases-loop-ch l = length l.counts - l.ch
+invariant-loop-ch l =
+    Going l.render.ring l.render.spectra.now l.plan.headroom l.plan.boundaries l.plan.num_sections l.responses.blocks.now l.responses.responses.now
+    l.r l.sums l.made_for l.rest l.ch

@@ -1,31 +1,23 @@
-use Rattle.std.proofs.Common.{◌+◌, ◌*◌, ◌≤◌, List, Float, length, arith, ap, ◌∙◌}
+use Rattle.std.proofs.Common.{◌*◌, ◌+◌, ◌-◌, List, Float, get_or, take, drop, ap, ◌∙◌, rules, arith}
+use Rattle.std.specs.Float.{nan, binary32}
+use Rattle.std.specs.Float.Ieee.{add}
 use Rattle.aec3_common.specs.Lists.{tab}
-use Rattle.aec3_common.proofs.Tables.{length-tab}
-use Rattle.aec3_common.proofs.Bands.{lent-part, part_length}
-use Rattle.section_echoes.specs.Steps.{with_powers}
-use Rattle.section_echoes.proofs.Sums.{response-begun, response-more}
+use Rattle.aec3_common.proofs.Bands.{lent-part}
+use Rattle.aec3_common.proofs.Changes.{changed-all}
+use Rattle.section_echoes.proofs.Sums.{with_powers, response-begun, response-more}
 use Rattle.section_echoes.proofs.echoes.section_response.Goals as goal
 
 pub loop-block-init : goal.loop-block-init
 unfolding tab
-loop-block-init c = (omega arith, omega arith, response-begun c.args.responses.now c.args.from)
-
-pub add_powers-requires : goal.add_powers-requires
-add_powers-requires c =
-    let block = c.loop-block.block in
-    let responses = c.args.responses.now in
-    let within : block * 65 + 65 ≤ length responses = omega (arith, c.loop-block-test.true, c.requires.0) in (
-      ap length c.loop-block.invariant.2 ∙ length-tab 65 _,
-      ap length (lent-part responses block) ∙ part_length responses block within,
-    )
+loop-block-init c = (omega arith, response-begun c.args.responses.now c.args.from)
 
 pub loop-block-preserved : goal.loop-block-preserved
 loop-block-preserved c =
     let block = c.loop-block.block in
-    let responses = c.args.responses.now in (
-      omega (arith, c.loop-block.invariant.0),
-      omega (arith, c.loop-block.invariant.0, c.loop-block-test.true),
-      c.add_powers.ensures
+    let responses = c.args.responses.now in
+    let powers = take (block * 65 + 65 - block * 65) (drop (block * 65) responses) in (
+      omega (arith, c.loop-block-test.true),
+      changed-all nan (λ k sum. add binary32 sum (get_or powers k nan)) c.change.ensures (search rules) (λ k x y h r. search rules)
           ∙ ap (λ (l : List Float). with_powers l c.loop-block.sums) (lent-part responses block)
-          ∙ response-more responses c.args.from block c.loop-block.sums c.loop-block.invariant.0 c.loop-block.invariant.2,
+          ∙ response-more responses c.args.from block c.loop-block.sums c.loop-block.auto.block c.loop-block.invariant.1,
     )

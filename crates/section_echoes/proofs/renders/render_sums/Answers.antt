@@ -7,14 +7,18 @@ use Rattle.section_echoes.proofs.renders.render_sums.Goals as goal
 
 pub loop-s-init : goal.loop-s-init
 unfolding tab
-loop-s-init c = sections-begun c.args.sections (section_render c.args.ring c.args.spectra.now c.args.headroom c.args.boundaries.now c.args.count)
+loop-s-init c =
+    let plan = c.args.plan.now in
+    sections-begun plan.num_sections (section_render c.args.render.now.ring c.args.render.now.spectra.now plan.headroom plan.boundaries c.args.count)
 
 pub loop-s-preserved : goal.loop-s-preserved
 loop-s-preserved c =
-    stored_more c.section_render.result c.loop-s.invariant c.loop-s-test.true c.requires.headroom_lt_max_filter_length_blocks.1
-    (section-render-is c.args.boundaries.now c.args.count c.loop-s.s c.fewer-to.ensures.value c.args.ring c.args.spectra.now c.args.headroom c.section_render.ensures)
+    let plan = c.args.plan.now in
+    stored_more c.section_render.result c.loop-s.invariant c.loop-s-test.true plan.few_sections
+    (section-render-is plan.boundaries c.args.count c.loop-s.s c.min.ensures c.args.render.now.ring c.args.render.now.spectra.now plan.headroom c.section_render.ensures)
 
 pub returns : goal.returns
 unfolding render_sums
 returns c =
-    sections-over c.args.sections (section_render c.args.ring c.args.spectra.now c.args.headroom c.args.boundaries.now c.args.count) c.loop-s.invariant c.loop-s-test.false
+    let plan = c.args.plan.now in
+    sections-over plan.num_sections (section_render c.args.render.now.ring c.args.render.now.spectra.now plan.headroom plan.boundaries c.args.count) c.loop-s.invariant c.loop-s-test.false

@@ -7,4 +7,4 @@ use Rattle.section_echoes.proofs.Sections.{no_sums}
 use Rattle.section_echoes.proofs.renders.render_sums.Given as goal
 
 abbrev pub invariant-loop-s : goal.invariant-loop-s
-invariant-loop-s l = Stored 8 [] 0 l.sections (λ t. bands (section_render l.ring l.spectra l.headroom l.boundaries l.count t)) no_sums l.r l.s
+invariant-loop-s l = Stored 8 [] 0 l.plan.num_sections (λ t. bands (section_render l.render.ring l.render.spectra.now l.plan.headroom l.plan.boundaries l.count t)) no_sums l.r l.s

@@ -12,23 +12,22 @@ none_left left all blocks e = go (eqb left 0) refl
     go true z = sym (eq-eqb blocks all (omega (arith, eqb-true left 0 z)))
     go false z = sym (ne_eqb blocks all (λ same. eqb-false left 0 z (omega arith)))
 
-pub loop-ch-init : goal.loop-ch-init
+pub loop-count-init : goal.loop-count-init
 unfolding total
-loop-ch-init c = (omega arith, omega arith)
+loop-count-init c = omega arith
 
-pub loop-ch-preserved : goal.loop-ch-preserved
-loop-ch-preserved c =
-    (omega arith, omega (arith, total-more c.args.counts.now c.loop-ch.ch c.loop-ch-test.true))
-
-pub returns-then-left-counts : goal.returns-then-left-counts
-returns-then-left-counts c =
+pub returns-in_default : goal.returns-in_default
+returns-in_default c =
     let counts : List ℕ = c.args.counts.now in
-    let ch : ℕ = c.loop-ch.ch in
+    let k : ℕ = c.loop-count.count-index in
     sym
     (ne_eqb c.args.blocks (total counts)
-    (λ e. omega (arith, e, total-more counts ch c.loop-ch-test.true, total-part counts (ch + 1))))
+    (λ e. omega (arith, e, c.in_default.ensures, total-more counts k c.loop-count-test.true, total-part counts (k + 1))))
+
+pub loop-count-preserved : goal.loop-count-preserved
+loop-count-preserved c = omega (arith, c.in-Some.ensures, total-more c.args.counts.now c.loop-count.count-index c.loop-count-test.true)
 
 pub returns : goal.returns
 returns c =
-    let all : total (take c.loop-ch.ch c.args.counts.now) ≡ total c.args.counts.now = ap total (take_all _ _ c.loop-ch-test.false) in
-    none_left c.loop-ch.left (total c.args.counts.now) c.args.blocks (omega arith)
+    let all : total (take c.loop-count.count-index c.args.counts.now) ≡ total c.args.counts.now = ap total (take_all _ _ c.loop-count-test.false) in
+    none_left c.loop-count.left (total c.args.counts.now) c.args.blocks (omega arith)

@@ -8,4 +8,5 @@ use Rattle.signal_dependent_erle_estimator.proofs.judge.responses_ok.Goals as go
 pub returns : goal.returns
 unfolding responses_ok
 returns c =
-    simp (c.add_up_to.ensures, c.counts_ok.ensures, and_assoc, spectra-counted (length c.args.responses.now) (total c.args.counts.now))
+    let lent = c.args.responses.now in
+    simp (c.counts_ok.ensures, c.add_up_to.ensures, and_assoc, spectra-counted (length lent.responses.now) (total lent.blocks.now))

@@ -3,14 +3,11 @@ use Rattle.std.proofs.Common.{◌≡◌, ◌-◌, ◌≤◌, length, take, drop}
 use Rattle.streaming.proofs.Piped.{Pipe}
 use Rattle.streaming.proofs.transducer.run.Given as goal
 
-abbrev pub invariant-loop-turns : goal.invariant-loop-turns
-invariant-loop-turns g l =
+abbrev pub invariant-loop : goal.invariant-loop
+invariant-loop g l =
     (g.T.Transducer.sound l.job)
     × (l.from ≤ l.to)
     × (l.to ≤ length l.input)
     × (length l.input ≡ length l.initial.input)
     × Pipe (g.R.Read.remaining l.initial.reader) (g.R.Read.remaining l.reader) (g.W.Write.contents l.initial.writer) (g.W.Write.contents l.writer)
     g.T.Transducer.whole (g.T.Transducer.ahead l.job) (take (l.to - l.from) (drop l.from l.input)) l.ended
-
-abbrev pub decreases-loop-turns : goal.decreases-loop-turns
-decreases-loop-turns g l = l.turns

@@ -1,44 +1,44 @@
-use Rattle.std.proofs.Common.{◌≡◌, ℕ, ◌+◌, Bool, List, length, refl, sym, ap, subst, ◌∙◌, eq-eqb, ne_eqb, arith, rules}
-use lib.Ieee.{Float}
+use Rattle.std.proofs.Common.{◌≡◌, ℕ, Bool, true, false, length, refl, sym, ap, ◌∙◌, eqb, eqb-true, arith, rules}
+use Rattle.aec3_common.specs.declared.block.Block.{Block}
+use Rattle.aec3_common.specs.Answers.{number_of}
+use Rattle.aec3_common.specs.Blocks.{with_block}
 use Rattle.aec3_common.specs.Calls.{call_refusal}
+use Rattle.aec3_common.specs.Refusal.{accepted}
 use Rattle.aec3_common.proofs.Bands.{part_length}
 use Rattle.aec3_common.proofs.Calls.{update-ok}
 use Rattle.aec3_common.proofs.Tables.{length-mapped, stored-none, stored-not-yet}
 use Rattle.subband_erle_estimator.specs.declared.SubbandErleEstimator.{SubbandErleEstimator}
 use Rattle.subband_erle_estimator.specs.Subband.{state_ok, update_refusal, update_answer}
-use Rattle.subband_erle_estimator.proofs.Judged.{state-few, points-few}
-use Rattle.subband_erle_estimator.proofs.Updates.{converged-channel, quiet-channel, Updating, updating-more, updating-all}
+use Rattle.subband_erle_estimator.proofs.Judged.{outcome-told, state-few, points-few}
+use Rattle.subband_erle_estimator.proofs.Updates.{converged-channel, quiet-channel, updating-more, updating-all}
 use Rattle.subband_erle_estimator.proofs.SubbandErleEstimator.update.Goals as goal
-use Rattle.subband_erle_estimator.proofs.SubbandErleEstimator.update.Goals.{then-converged_filters-ch, else-converged_filters-ch}
+use Rattle.subband_erle_estimator.proofs.SubbandErleEstimator.update.Goals.{then-block-ch, else-block-ch}
 
 -- the state is judged, and the call
 refused-by :
-    (s : SubbandErleEstimator) (channels : ℕ) (converged : List Bool) (x y e : List Float) {refused : ℕ} {ok : Bool}
-    → ok ≡ state_ok s → refused ≡ call_refusal ok s.settings.num_capture_channels channels converged x y e
-    → refused ≡ update_refusal s channels converged x y e
+    (s : SubbandErleEstimator) (b : Block) {refused : ℕ} {ok : Bool}
+    → ok ≡ state_ok s → refused ≡ with_block (call_refusal ok s.settings.num_capture_channels) b
+    → refused ≡ with_block (update_refusal s) b
 unfolding update_refusal
-refused-by s channels converged x y e passes told = told ∙ rw passes refl
+refused-by s b passes told = told ∙ rw passes refl
 
-pub returns-else-refused-eq-ACCEPTED : goal.returns-else-refused-eq-ACCEPTED
+pub returns-else-is_ok : goal.returns-else-is_ok
 unfolding update_answer
-returns-else-refused-eq-ACCEPTED c =
-    let a = c.args in
-    let refused =
-    refused-by a.self a.num_capture_channels a.converged_filters.now a.x2.now a.y2.now a.e2.now
-    c.ok.ensures c.call_refusal-refused.ensures in
-    simp (sym refused, ne_eqb _ _ c.if-refused-eq-ACCEPTED.false)
+returns-else-is_ok c =
+    let refused = refused-by c.args.self c.args.block.now c.ok.ensures c.judge-outcome.ensures in
+    let other : eqb (number_of c.judge-outcome.result) accepted ≡ false = outcome-told c.judge-outcome.result ∙ sym c.is_ok.ensures.value ∙ c.if-is_ok.false in
+    simp (sym refused, other)
 
 pub loop-ch-init : goal.loop-ch-init
 unfolding update_refusal
 loop-ch-init c =
-    let a = c.args in
-    let s = a.self in
-    let refused =
-    refused-by s a.num_capture_channels a.converged_filters.now a.x2.now a.y2.now a.e2.now
-    c.ok.ensures c.call_refusal-refused.ensures in
+    let s = c.args.self in
+    let b = c.args.block.now in
+    let refused = refused-by s b c.ok.ensures c.judge-outcome.ensures in
+    let accept : number_of c.judge-outcome.result ≡ accepted = eqb-true _ accepted (outcome-told c.judge-outcome.result ∙ sym c.is_ok.ensures.value ∙ c.if-is_ok.true) in
     let ok =
-    update-ok (state_ok s) s.settings.num_capture_channels a.num_capture_channels a.converged_filters.now a.x2.now a.y2.now a.e2.now
-    (sym refused ∙ c.if-refused-eq-ACCEPTED.true) in
+    update-ok (state_ok s) s.settings.num_capture_channels b.num_capture_channels b.converged_filters.now b.x2.now b.y2.now b.e2.now
+    (sym refused ∙ accept) in
     let few = state-few s ok.state in (
       omega arith,
       few,
@@ -58,8 +58,8 @@ update-requires-clause-x2_len c =
     let u = at.invariant.2 in
     let h = c.loop-ch-test.true in (
       u.ok.long_render,
-      ap length c.part.ensures ∙ part_length c.args.y2.now at.ch (omega (arith, h, u.ok.long_capture)),
-      ap length c.part-then-converged_filters-ch.ensures ∙ part_length c.args.e2.now at.ch (omega (arith, h, u.ok.long_residual)),
+      ap length c.own_y2.ensures ∙ part_length c.args.block.now.y2.now at.ch (omega (arith, h, u.ok.long_capture)),
+      ap length c.own_e2.ensures ∙ part_length c.args.block.now.e2.now at.ch (omega (arith, h, u.ok.long_residual)),
     )
 
 pub loop-ch-preserved : goal.loop-ch-preserved
@@ -70,35 +70,30 @@ loop-ch-preserved c =
     let h = c.loop-ch-test.true in
     let held = stored-not-yet u.stored in
     let s = c.args.self in
-    let flags = c.args.converged_filters.now in
-    let x = c.args.x2.now in
-    let y = c.args.y2.now in
-    let e = c.args.e2.now in (
+    let b = c.args.block.now in
+    let flags = b.converged_filters.now in
+    let x = b.x2.now in
+    let y = b.y2.now in
+    let e = b.e2.now in (
       omega (arith, h),
       few,
-      elim c.if-converged_filters-ch.branch [
-        | then-converged_filters-ch w ↦
-            subst (λ (r : SubbandErleEstimator). Updating s flags x y e r (at.ch + 1)) (sym w.self-is)
-            (updating-more s flags x y e at.self at.ch _ u h few
-            (w.update.ensures
-            ∙ rw (w.part.ensures, w.part-then-converged_filters-ch.ensures)
-            (converged-channel s flags x y e at.ch _ w.if-converged_filters-ch.true held)))
-        | else-converged_filters-ch w ↦
-            subst (λ (r : SubbandErleEstimator). Updating s flags x y e r (at.ch + 1)) (sym w.self-is)
-            (updating-more s flags x y e at.self at.ch _ u h few
-            (w.decay.ensures ∙ quiet-channel s flags x y e at.ch _ w.if-converged_filters-ch.false held))
-      ],
+      updating-more s flags x y e at.self at.ch _ u h few
+          (elim c.if-block-ch.branch [
+            | then-block-ch w ↦
+                w.self-is ∙ w.update.ensures
+                ∙ rw (w.own_y2.ensures, w.own_e2.ensures)
+                (converged-channel s flags x y e at.ch _ w.if-block-ch.true held)
+            | else-block-ch w ↦ w.self-is ∙ w.decay.ensures ∙ quiet-channel s flags x y e at.ch _ w.if-block-ch.false held
+          ]),
     )
 
 pub returns-after-loop-ch : goal.returns-after-loop-ch
 unfolding update_answer
 returns-after-loop-ch c =
-    let a = c.args in
+    let s = c.args.self in
+    let b = c.args.block.now in
     let at = c.loop-ch in
-    let refused =
-    refused-by a.self a.num_capture_channels a.converged_filters.now a.x2.now a.y2.now a.e2.now
-    c.ok.ensures c.call_refusal-refused.ensures in
-    let done =
-    updating-all a.self a.converged_filters.now a.x2.now a.y2.now a.e2.now at.self at.ch at.invariant.2
-    c.loop-ch-test.false in
-    simp (sym refused, eq-eqb _ _ c.if-refused-eq-ACCEPTED.true, done)
+    let refused = refused-by s b c.ok.ensures c.judge-outcome.ensures in
+    let accept : eqb (number_of c.judge-outcome.result) accepted ≡ true = outcome-told c.judge-outcome.result ∙ sym c.is_ok.ensures.value ∙ c.if-is_ok.true in
+    let done = updating-all s b.converged_filters.now b.x2.now b.y2.now b.e2.now at.self at.ch at.invariant.2 c.loop-ch-test.false in
+    simp (sym refused, accept, done)

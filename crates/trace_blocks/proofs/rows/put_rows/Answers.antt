@@ -1,4 +1,4 @@
-use Rattle.std.proofs.Common.{◌≡◌, ℕ, zero, suc, ◌-◌, ◌<◌, List, refl, sym, ◌∙◌, arith}
+use Rattle.std.proofs.Common.{◌≡◌, ℕ, zero, suc, ◌+◌, ◌-◌, ◌<◌, List, refl, sym, ap, ◌∙◌, arith}
 use native.Mathlib.Numerals.{sub-one}
 use Rattle.encoding.specs.Text.{written, after}
 use Rattle.trace_text.specs.Text.{Item, row, line}
@@ -8,20 +8,23 @@ use Rattle.subband_erle_estimator.specs.Subband.{channel_at}
 use Rattle.erle_estimator.specs.declared.ErleEstimator.{ErleEstimator}
 use Rattle.erle_estimator.specs.Parts.{subband_part}
 use Rattle.erle_estimator.specs.Erle.{sectioned, erle_shown, streams_shown}
-use Rattle.trace_state.specs.Apply.{row_at}
+use Rattle.trace_state.specs.Apply.{channels_of, row_at}
 use Rattle.trace_blocks.specs.declared.rows.ChannelFigures.{ChannelFigures}
 use Rattle.trace_blocks.specs.Steps.{figures_of, rows_written}
 use Rattle.trace_state.proofs.Room.{room-none, room-some}
 use Rattle.trace_blocks.proofs.rows.put_rows.Goals as goal
 
--- a row is written
-module _ (f : ℕ → Item) (n due : ℕ) (d : List ℕ) (at : ℕ) (e : List ℕ) (next : ℕ) {i : Item} where
+-- a row is written, that of a channel
+module _ (f : ℕ → Item) (n ch : ℕ) (d : List ℕ) (at : ℕ) (e : List ℕ) (next : ℕ) {i : Item} where
   -- what it leaves if it found room
   rows_more :
-      0 < due → i ≡ f (n - due) → e ≡ written d at (line i) → next ≡ after d at (line i) → (next ≡ at → ⊥)
-      → rows_written f n due d at ≡ rows_written f n (due - 1) e next
+      ch < n → i ≡ f ch → e ≡ written d at (line i) → next ≡ after d at (line i) → (next ≡ at → ⊥)
+      → rows_written f n (n - ch) d at ≡ rows_written f n (n - (ch + 1)) e next
   unfolding rows_written written after
-  rows_more some is text place other = go due some is
+  rows_more some is text place other =
+      let here : ch ≡ n - (n - ch) = omega arith in
+      let later : n - ch - 1 ≡ n - (ch + 1) = omega arith in
+      go (n - ch) (omega arith) (is ∙ ap f here) ∙ rw later
     where
       go : (k : ℕ) → 0 < k → i ≡ f (n - k) → rows_written f n k d at ≡ rows_written f n (k - 1) e next
       go zero none own = absurd (omega arith)
@@ -31,10 +34,12 @@ module _ (f : ℕ → Item) (n due : ℕ) (d : List ℕ) (at : ℕ) (e : List �
 
   -- and if it found none
   rows-full :
-      0 < due → i ≡ f (n - due) → e ≡ written d at (line i) → next ≡ after d at (line i) → next ≡ at
-      → rows_written f n due d at ≡ record { out = e; at = at; due = due }
+      ch < n → i ≡ f ch → e ≡ written d at (line i) → next ≡ after d at (line i) → next ≡ at
+      → rows_written f n (n - ch) d at ≡ record { out = e; at = at; due = n - ch }
   unfolding rows_written written
-  rows-full some is text place same = go due some is
+  rows-full some is text place same =
+      let here : ch ≡ n - (n - ch) = omega arith in
+      go (n - ch) (omega arith) (is ∙ ap f here)
     where
       go : (k : ℕ) → 0 < k → i ≡ f (n - k) → rows_written f n k d at ≡ record { out = e; at = at; due = k }
       go zero none own = absurd (omega arith)
@@ -52,21 +57,20 @@ figures-row e band number ch f section is = rw (is, section) refl
 
 pub returns-then-next-at-clause-at_value : goal.returns-then-next-at-clause-at_value
 returns-then-next-at-clause-at_value c =
-    let own = figures-row _ _ c.args.block _ _ (c.requires.ready.section (omega (arith, c.loop-due-test.true, c.loop-due.invariant.1, c.requires.due_few))) c.figures_at-shown.ensures in
-    c.loop-due.invariant.0
-    ∙ rows-full _ _ _ _ _ _ _ c.loop-due-test.true own c.put_row-next.ensures.out_after c.put_row-next.ensures.value c.if-next-at.true
+    let own = figures-row _ _ c.args.block _ _ (c.requires.ready.section (omega arith)) c.figures_at-shown.ensures in
+    c.loop-ch.invariant.0
+    ∙ rows-full _ _ _ _ _ _ _ c.loop-ch-test.true own c.put_row-next.ensures.out_after c.put_row-next.ensures.value c.if-next-at.true
 
-pub loop-due-preserved : goal.loop-due-preserved
-loop-due-preserved c =
-    let own = figures-row _ _ c.args.block _ _ (c.requires.ready.section (omega (arith, c.loop-due-test.true, c.loop-due.invariant.1, c.requires.due_few))) c.figures_at-shown.ensures in (
-      c.loop-due.invariant.0
-          ∙ rows_more _ _ _ _ _ _ _ c.loop-due-test.true own c.put_row-next.ensures.out_after c.put_row-next.ensures.value c.if-next-at.false,
-      omega (arith, c.loop-due.invariant.1),
-      c.put_row-next.auto.out ∙ c.loop-due.invariant.2,
+pub loop-ch-preserved : goal.loop-ch-preserved
+loop-ch-preserved c =
+    let own = figures-row _ _ c.args.block _ _ (c.requires.ready.section (omega arith)) c.figures_at-shown.ensures in (
+      c.loop-ch.invariant.0
+          ∙ rows_more _ _ _ _ _ _ _ c.loop-ch-test.true own c.put_row-next.ensures.out_after c.put_row-next.ensures.value c.if-next-at.false,
+      c.put_row-next.auto.out ∙ c.loop-ch.invariant.1,
     )
 
 pub returns-clause-at_value : goal.returns-clause-at_value
 unfolding rows_written
 returns-clause-at_value c =
-    let none : c.loop-due.due ≡ 0 = omega arith in
-    c.loop-due.invariant.0 ∙ rw none
+    let none : channels_of c.args.estimator.now - c.loop-ch.ch ≡ 0 = omega (arith, c.loop-ch-test.false) in
+    c.loop-ch.invariant.0 ∙ rw none

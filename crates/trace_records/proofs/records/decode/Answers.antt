@@ -1,43 +1,30 @@
 -- By its kind.
 use Rattle.std.proofs.Common.{sym, ◌∙◌}
-use borrow.Author.Tests.{eq-eqb, ne_eqb}
+use borrow.Author.Tests.{ne_eqb}
 use Rattle.trace_records.specs.Records.{decoded}
 use Rattle.trace_records.specs.Steps.{record_from}
 use Rattle.trace_records.proofs.records.decode.Goals as goal
 
-pub returns-then-kind-eq-SETTINGS_KIND : goal.returns-then-kind-eq-SETTINGS_KIND
+pub returns-in-Ok-Settings : goal.returns-in-Ok-Settings
 unfolding decoded record_from
-returns-then-kind-eq-SETTINGS_KIND c st =
-    let kind = sym c.half_at-kind.ensures.value ∙ c.if-kind-eq-SETTINGS_KIND.true in
-    simp (eq-eqb _ _ kind, c.settings_in.ensures)
+returns-in-Ok-Settings c st =
+    let kind = sym c.half_at.ensures.value ∙ rw c.in-Ok-Settings.field-0-is at c.in-Ok-Settings.ensures in
+    rw (kind, c.settings_in.ensures)
 
-pub returns-then-kind-eq-BLOCK_KIND : goal.returns-then-kind-eq-BLOCK_KIND
+pub returns-in-Ok-Block : goal.returns-in-Ok-Block
 unfolding decoded record_from
-returns-then-kind-eq-BLOCK_KIND c st =
-    let kind = c.half_at-kind.ensures.value in
-    sym (rw (ne_eqb _ 1 (λ e. c.if-kind-eq-SETTINGS_KIND.false (kind ∙ e)), eq-eqb _ 2 (sym kind ∙ c.if-kind-eq-BLOCK_KIND.true)))
+returns-in-Ok-Block c st =
+    let kind = sym c.half_at.ensures.value ∙ rw c.in-Ok-Block.field-0-is at c.in-Ok-Block.ensures in
+    rw kind
 
-pub returns-then-kind-eq-RESET_KIND : goal.returns-then-kind-eq-RESET_KIND
+pub returns-in-Ok-Reset : goal.returns-in-Ok-Reset
 unfolding decoded record_from
-returns-then-kind-eq-RESET_KIND c st =
-    let kind = c.half_at-kind.ensures.value in
-    sym (
-    rw (
-      ne_eqb _ 1 (λ e. c.if-kind-eq-SETTINGS_KIND.false (kind ∙ e)),
-      ne_eqb _ 2 (λ e. c.if-kind-eq-BLOCK_KIND.false (kind ∙ e)),
-      eq-eqb _ 3 (sym kind ∙ c.if-kind-eq-RESET_KIND.true),
-      c.byte_at.ensures.value,
-    )
-    )
+returns-in-Ok-Reset c st =
+    let kind = sym c.half_at.ensures.value ∙ rw c.in-Ok-Reset.field-0-is at c.in-Ok-Reset.ensures in
+    rw (kind, c.byte_at.ensures.value)
 
-pub returns-else-kind-eq-RESET_KIND : goal.returns-else-kind-eq-RESET_KIND
+pub returns-in-Err : goal.returns-in-Err
 unfolding decoded record_from
-returns-else-kind-eq-RESET_KIND c st =
-    let kind = c.half_at-kind.ensures.value in
-    sym (
-    rw (
-      ne_eqb _ 1 (λ e. c.if-kind-eq-SETTINGS_KIND.false (kind ∙ e)),
-      ne_eqb _ 2 (λ e. c.if-kind-eq-BLOCK_KIND.false (kind ∙ e)),
-      ne_eqb _ 3 (λ e. c.if-kind-eq-RESET_KIND.false (kind ∙ e)),
-    )
-    )
+returns-in-Err c st =
+    let (_, a, b, d) = rw c.half_at.ensures.value at c.in-Err.ensures in
+    simp (ne_eqb _ _ a, ne_eqb _ _ b, ne_eqb _ _ d)

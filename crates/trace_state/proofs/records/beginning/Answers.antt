@@ -9,7 +9,7 @@ use Rattle.trace_state.proofs.records.beginning.Goals as goal
 
 pub returns-clause-value : goal.returns-clause-value
 unfolding beginning
-returns-clause-value c = rw (c.started_with-estimator.ensures, c.refused_settings.ensures) refl
+returns-clause-value c = rw (c.started_with.ensures, c.refused_settings.ensures) refl
 
 pub returns-clause-judged_alone : goal.returns-clause-judged_alone
 returns-clause-judged_alone c = subst JudgedAlone (sym (returns-clause-value c)) judged-alone

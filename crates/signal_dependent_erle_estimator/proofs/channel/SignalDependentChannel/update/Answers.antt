@@ -1,10 +1,5 @@
 use Rattle.signal_dependent_erle_estimator.proofs.After.{after_on, after-off}
-use Rattle.signal_dependent_erle_estimator.proofs.Judged.{one-of-eight}
 use Rattle.signal_dependent_erle_estimator.proofs.channel.SignalDependentChannel.update.Goals as goal
-
-pub band_factors-factors-requires : goal.band_factors-factors-requires
-band_factors-factors-requires c =
-    one-of-eight c.args.settings.num_sections c.args.active.now c.requires.bound.1 c.requires.active_value
 
 pub returns-then-settings : goal.returns-then-settings
 returns-then-settings c =

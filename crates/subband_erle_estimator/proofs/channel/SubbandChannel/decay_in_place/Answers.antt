@@ -6,18 +6,7 @@ use Rattle.subband_erle_estimator.proofs.channel.SubbandChannel.decay_in_place.G
 
 pub returns : goal.returns
 returns c =
-    let long : Long c.args.self.now =
-    record {
-      capture = search rules;
-      residual = search rules;
-      low = search rules;
-      plain = search rules;
-      uncapped = search rules;
-      compensated = search rules;
-      onset = search rules;
-      waits = search rules;
-      hold = search rules;
-    } in
+    let long : Long c.args.self.now = search rules in
     lowered_is c.args.settings c.args.self.now c.lower_holds.ensures long c.decay_compensated.ensures c.wait_again.ensures
     c.copy_ends.ensures c.copy_ends-2.ensures c.copy_ends-3.ensures
     ∙ after-unconverged c.args.settings c.args.self.now

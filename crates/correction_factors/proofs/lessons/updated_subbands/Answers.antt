@@ -1,5 +1,0 @@
-use Rattle.aec3_common.proofs.Tables.{stored-all}
-use Rattle.correction_factors.proofs.lessons.updated_subbands.Goals as goal
-
-pub returns : goal.returns
-returns c = stored-all c.loop-s.invariant c.loop-s-test.false

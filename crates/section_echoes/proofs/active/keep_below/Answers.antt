@@ -1,5 +1,0 @@
-use Rattle.aec3_common.proofs.Tables.{stored-all}
-use Rattle.section_echoes.proofs.active.keep_below.Goals as goal
-
-pub returns : goal.returns
-returns c = stored-all c.loop-k.invariant c.loop-k-test.false

@@ -1,8 +1,0 @@
--- The sums hold the render power of the blocks before this one.
-use Rattle.std.proofs.Common.{◌≡◌, ◌-◌, ◌≤◌}
-use Rattle.section_echoes.specs.Echoes.{render_sum}
-use Rattle.section_echoes.specs.Steps.{bands}
-use Rattle.section_echoes.proofs.renders.section_render.Given as goal
-
-abbrev pub invariant-loop-block : goal.invariant-loop-block
-invariant-loop-block l = (l.from ≤ l.block) × (l.block - l.from ≤ l.to - l.from) × (l.sums ≡ bands (render_sum l.ring l.spectra l.headroom l.from (l.block - l.from)))

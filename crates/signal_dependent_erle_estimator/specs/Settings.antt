@@ -1,0 +1,16 @@
+-- The settings of the signal-dependent estimator, as a share of the whole estimator's.
+use Rattle.aec3_common.specs.declared.settings.ErleSettings.{ErleSettings}
+use Rattle.signal_dependent_erle_estimator.specs.declared.settings.SignalDependentSettings.{SignalDependentSettings}
+
+abbrev pub signal_settings : ErleSettings → SignalDependentSettings
+signal_settings g =
+    record {
+      min = g.min;
+      max_l = g.max_l;
+      max_h = g.max_h;
+      onset_detection = g.onset_detection;
+      num_capture_channels = g.num_capture_channels;
+      num_sections = g.num_sections;
+      filter_length_blocks = g.filter_length_blocks;
+      delay_headroom_samples = g.delay_headroom_samples;
+    }
