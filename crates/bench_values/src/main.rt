@@ -35,7 +35,9 @@ fn erl_moves_to(erl: f32) -> bool {
 }
 
 // What is given, and whether the code agrees.
-fn bench() -> [(&'static str, bool); 10] {
+type Told = (&'static str, bool);
+
+fn log2_and_ring() -> [Told; 7] {
     [
         (
             "log2 of 1 has bits 3D6AB800",
@@ -65,6 +67,11 @@ fn bench() -> [(&'static str, bool); 10] {
             "ring of 5: offset 6 is refused with 8",
             offset_index(5, 0, 6) == Err(Refusal::BadOffset),
         ),
+    ]
+}
+
+fn sections_and_erl() -> [Told; 3] {
+    [
         (
             "13 blocks, 3 sections give 0, 2, 6, 13",
             section_boundaries(layout(3, 13)).is_ok_and(|found| found[..4] == [0, 2, 6, 13]),
@@ -79,7 +86,7 @@ fn bench() -> [(&'static str, bool); 10] {
 
 // A failure to write can be told nowhere.
 fn main(rt: HostRuntime) {
-    for (given, holds) in bench() {
+    for (given, holds) in log2_and_ring().into_iter().chain(sections_and_erl()) {
         let _ = println!(rt; "{given}: {}", if holds { "yes" } else { "no" });
     }
 }

@@ -45,8 +45,9 @@ impl<'a> Blocks<'a> {
         })
     }
 
-    // What a step makes of an estimator, block by block, and that so many rounds. The step is told which block of the round it is.
-    pub fn run<E, F: Fn(E, usize, &Block) -> E>(&self, start: E, rounds: usize, step: F) -> E
+    // What a step makes of an estimator, block by block, and that so many rounds. The step is told which block of the round it is. It is lent
+    // the estimator: by value its state would be copied twice more for each block, and the copies timed.
+    pub fn run<E, F: Fn(&mut E, usize, &Block)>(&self, start: E, rounds: usize, step: F) -> E
         requires { F.IsAlwaysCallable step }
     {
         let numbers = self.num_capture_channels * 65;
@@ -69,7 +70,7 @@ impl<'a> Blocks<'a> {
                     y2,
                     e2,
                 };
-                estimator = step(estimator, index, &block);
+                step(&mut estimator, index, &block);
             }
         }
         estimator

@@ -2,6 +2,7 @@
 use crate::blocks::Blocks;
 use crate::figures::erle_sum;
 use crate::ring::{FILTER_LENGTH_BLOCKS, Shared};
+use aec3_common::Block;
 use erle_estimator::{ErleEstimator, ErleSettings};
 
 // Runs the whole ERLE estimator, without startup, over all blocks, in order, and that so many rounds. A block has one flag
@@ -43,9 +44,10 @@ pub extern "C" fn speed_erle(
     let Ok(start) = ErleEstimator::new(0, settings) else {
         return 0.0;
     };
-    erle_sum(&lists.run(start, rounds, |estimator, index, block| {
-        estimator
+    let step = |estimator: &mut ErleEstimator, index: usize, block: &Block| {
+        *estimator = estimator
             .update(&shared.buffer(index), &shared.responses(), block)
-            .state
-    }))
+            .state;
+    };
+    erle_sum(&lists.run(start, rounds, step))
 }

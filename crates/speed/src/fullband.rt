@@ -1,6 +1,7 @@
 // Updates of the fullband estimator.
 use crate::blocks::Blocks;
 use crate::figures::fullband_sum;
+use aec3_common::Block;
 use fullband_erle_estimator::{FullBandErleEstimator, FullBandSettings};
 
 // Runs a fullband estimator over all blocks, in order, and that so many rounds. A block has one flag for each channel,
@@ -31,7 +32,8 @@ pub extern "C" fn speed_fullband(
     let Ok(start) = FullBandErleEstimator::new(settings) else {
         return 0.0;
     };
-    fullband_sum(&lists.run(start, rounds, |estimator, _, block| {
-        estimator.update(block).state
-    }))
+    let step = |estimator: &mut FullBandErleEstimator, _: usize, block: &Block| {
+        *estimator = estimator.update(block).state;
+    };
+    fullband_sum(&lists.run(start, rounds, step))
 }

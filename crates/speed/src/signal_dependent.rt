@@ -2,6 +2,7 @@
 use crate::blocks::{Blocks, first_blocks};
 use crate::figures::signal_dependent_sum;
 use crate::ring::{FILTER_LENGTH_BLOCKS, Shared};
+use aec3_common::Block;
 use signal_dependent_erle_estimator::{
     Averages, SignalDependentErleEstimator, SignalDependentSettings,
 };
@@ -51,9 +52,10 @@ pub extern "C" fn speed_signal_dependent(
     let Ok(start) = SignalDependentErleEstimator::new(settings) else {
         return 0.0;
     };
-    signal_dependent_sum(&lists.run(start, rounds, |estimator, index, block| {
-        estimator
+    let step = |estimator: &mut SignalDependentErleEstimator, index: usize, block: &Block| {
+        *estimator = estimator
             .update(&shared.buffer(index), &shared.responses(), block, &averages)
-            .state
-    }))
+            .state;
+    };
+    signal_dependent_sum(&lists.run(start, rounds, step))
 }

@@ -1,6 +1,7 @@
 // Updates of the subband estimator.
 use crate::blocks::Blocks;
 use crate::figures::subband_sum;
+use aec3_common::Block;
 use subband_erle_estimator::{SubbandErleEstimator, SubbandSettings};
 
 // Runs a subband estimator over all blocks, in order, and that so many rounds. A block has one flag for each channel,
@@ -31,7 +32,8 @@ pub extern "C" fn speed_subband(
     let Ok(start) = SubbandErleEstimator::new(settings) else {
         return 0.0;
     };
-    subband_sum(&lists.run(start, rounds, |estimator, _, block| {
-        estimator.update(block).state
-    }))
+    let step = |estimator: &mut SubbandErleEstimator, _: usize, block: &Block| {
+        *estimator = estimator.update(block).state;
+    };
+    subband_sum(&lists.run(start, rounds, step))
 }
