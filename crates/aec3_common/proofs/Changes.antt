@@ -32,6 +32,17 @@ changed-between {n = n} {lo = lo} {hi = hi} {xs = xs} {ys = ys} d f c long told 
     beside k true e out = c.above k d (ltb-false k hi out)
     beside k false e out = c.below k d (omega (arith, leb-false lo k e))
 
+pub changed-firsts :
+    {T : Type 0} {R : ℕ → T → T → Type 0} {n count : ℕ} {xs ys : List T} (d : T) (f : ℕ → T → T)
+    → Changed R 0 count xs ys → length ys ≡ n → ((k : ℕ) (x y : T) → k < count → R k x y → y ≡ f k x)
+    → ys ≡ tab n (λ k. cond (ltb k count) (f k (get_or xs k d)) (get_or xs k d))
+changed-firsts {n = n} {count = count} {xs = xs} {ys = ys} d f c long told =
+    tab-is n d (λ k. cond (ltb k count) (f k (get_or xs k d)) (get_or xs k d)) ys long
+    (λ k h.
+    cond-by (ltb k count) (get_or ys k d) (f k (get_or xs k d)) (get_or xs k d)
+    (λ e. let under : k < count = ltb-true k count e in told k (get_or xs k d) (get_or ys k d) under (c.within k d (omega arith) under))
+    (λ e. c.above k d (ltb-false k count e)))
+
 -- ---- a table that `array::from_fn` makes
 
 module _ {F B : Type 0} (g : Mut F (ℕ × Unit {0}) B) (f : F) (made : ℕ → B) (told : (k : ℕ) (y : B) (q : F) → Called g f (k, tt) y q → (q ≡ f) × (y ≡ made k)) where

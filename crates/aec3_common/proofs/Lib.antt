@@ -24,4 +24,4 @@ pub mod Sizes
 pub mod SizedMoves
 pub mod Logs
 pub mod Cases
-mod Refusals
+pub mod Refusals

@@ -1,8 +1,10 @@
 -- Refusals and their numbers.
-use Rattle.std.proofs.Common.{◌≡◌, ℕ, ◌<◌, true, cond, eqb, ltb, sym, refl, ap, ◌∙◌, arith, ltb-true}
+use Rattle.std.proofs.Common.{◌≡◌, ℕ, ◌<◌, true, false, cond, eqb, ltb, sym, refl, ap, ◌∙◌, arith, ltb-true, Result, Ok, Err, is_ok}
+use Rattle.std.proofs.lemmas.Bool.Decides.{nat_tests}
 use Rattle.aec3_common.specs.declared.refusal.Refusal.{Refusal}
 use Rattle.aec3_common.specs.declared.refusal.Refusal.TheVariants.{BadLimits, BadChannelCount, BadSections, BadRing, BadLength, BadValue, BadLog2Input, BadOffset, BadPlace, BadFrame, UnknownKind, BadRecordLength, BadFlagOrBand, BadState, OtherChannelCount, NoSettings, SecondSettings}
-use Rattle.aec3_common.specs.Answers.{number, NumbersTellRefusals}
+use Rattle.aec3_common.specs.Answers.{number, number_of, NumbersTellRefusals}
+use Rattle.aec3_common.specs.Refusal.{accepted}
 
 -- the refusal that has a number
 abbrev named : ℕ → Refusal
@@ -68,3 +70,11 @@ numbers-tell-refusals =
       apart = λ a b e. sym (named-number a) ∙ ap named e ∙ named-number b;
       none_accepted = λ a e. let some : 0 < number a = ltb-true 0 (number a) (positive a) in omega arith;
     }
+
+-- so an answer has number 0 where it is no refusal
+pub outcome-told : {A : Type 0} (r : Result A Refusal) → eqb (number_of r) accepted ≡ is_ok r
+outcome-told (Ok value) = refl
+outcome-told (Err a) = some (number a) (positive a)
+  where
+    some : (n : ℕ) → ltb 0 n ≡ true → eqb n 0 ≡ false
+    some n above = grind (arith, nat_tests)

@@ -72,5 +72,5 @@ sectioned_settings_refusal min max_l max_h channels sections length samples =
 -- of whole settings
 unfoldable pub settings_refusal : ErleSettings → ℕ
 settings_refusal s =
-    sectioned_settings_refusal s.min s.max_l s.max_h s.num_capture_channels
-    s.num_sections s.filter_length_blocks s.delay_headroom_samples
+    sectioned_settings_refusal s.limits.min s.limits.max_l s.limits.max_h s.num_capture_channels
+    s.layout.num_sections s.layout.filter_length_blocks s.layout.delay_headroom_samples

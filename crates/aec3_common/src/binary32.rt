@@ -11,7 +11,7 @@ pub const GREATEST_VALUE: f32 = 1267650600228229401496703205376.0;
 
 pub const GREATEST_SUM: f32 = 1298074214633706907132624082305024.0;
 
-// x within lo and hi, as Rust's f32::clamp: a NaN stays.
+// x within lo and hi: a NaN stays. std's f32::clamp asks that lo is not above hi, and a state may hold limits out of order.
 #[tactic(auto, unfolding(crate::specs::Binary32::clamped))]
 pub fn clamp(x: f32, lo: f32, hi: f32) -> f32
     ensures { result ≡ clamped x lo hi }
@@ -25,7 +25,8 @@ pub fn clamp(x: f32, lo: f32, hi: f32) -> f32
     }
 }
 
-// The larger of two; the first unless the second is above it.
+// The larger of two; the first unless the second is above it. std's max and min leave open which of two zeros they give, and of a NaN they
+// give the other.
 #[tactic(auto, unfolding(crate::specs::Binary32::larger))]
 pub fn larger(a: f32, b: f32) -> f32
     ensures { result ≡ Binary32·larger a b }

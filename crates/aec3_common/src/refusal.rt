@@ -49,7 +49,18 @@ pub struct Answer<S> {
     pub outcome: Result<(), Refusal>,
 }
 
-// The lesser of two refusals, if there are any.
+impl<S: Copy> Answer<S> {
+    // Puts the next state where a caller keeps it, and hands the outcome on.
+    pub fn settle(self, state: &mut S) -> Result<(), Refusal>
+        ensures state { state.new ≡ self.state }
+        ensures outcome { result ≡ self.outcome }
+    {
+        *state = self.state;
+        self.outcome
+    }
+}
+
+// The lesser of two refusals, if there are any. They are compared as numbers, since the order that is asked for is that of the numbers.
 #[tactic(auto, unfolding(crate::specs::Refusal::lesser))]
 pub fn lesser(a: Result<(), Refusal>, b: Result<(), Refusal>) -> Result<(), Refusal>
     ensures { number_of result ≡ lesser (number_of a) (number_of b) }

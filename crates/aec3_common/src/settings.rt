@@ -38,14 +38,10 @@ pub struct FilterLayout {
 
 #[derive(Clone, Copy, Debug)]
 pub struct ErleSettings {
-    pub min: f32,
-    pub max_l: f32,
-    pub max_h: f32,
+    pub limits: ErleLimits,
     pub onset_detection: bool,
     pub num_capture_channels: usize,
-    pub num_sections: usize,
-    pub filter_length_blocks: usize,
-    pub delay_headroom_samples: usize,
+    pub layout: FilterLayout,
     pub clamp_quality_estimate_to_zero: bool,
     pub clamp_quality_estimate_to_one: bool,
 }
@@ -146,31 +142,11 @@ pub fn judge_sectioned_settings(
 }
 
 impl ErleSettings {
-    pub fn limits(self) -> ErleLimits
-        ensures { result ≡ (record { min = self.min; max_l = self.max_l; max_h = self.max_h }) }
-    {
-        ErleLimits {
-            min: self.min,
-            max_l: self.max_l,
-            max_h: self.max_h,
-        }
-    }
-
-    pub fn layout(self) -> FilterLayout
-        ensures { result ≡ (record { num_sections = self.num_sections; filter_length_blocks = self.filter_length_blocks; delay_headroom_samples = self.delay_headroom_samples }) }
-    {
-        FilterLayout {
-            num_sections: self.num_sections,
-            filter_length_blocks: self.filter_length_blocks,
-            delay_headroom_samples: self.delay_headroom_samples,
-        }
-    }
-
     // The first of 1, 2 and 3 that the settings break.
     #[tactic(auto, unfolding(crate::specs::Settings::settings_refusal))]
     pub fn judge(self) -> Result<(), Refusal>
         ensures { number_of result ≡ settings_refusal self }
     {
-        judge_sectioned_settings(self.limits(), self.num_capture_channels, self.layout())
+        judge_sectioned_settings(self.limits, self.num_capture_channels, self.layout)
     }
 }

@@ -1,11 +1,12 @@
 // The readings of a fullband estimator, and the inner state of one of its channels.
+use crate::ChannelState;
 use aec3_common::Refusal;
 use fullband_erle_estimator::{ErleInstantaneous, FullBandChannel, OptionalNumber};
 use script::{Bits, OrRefused};
 use std::fmt;
 
 // A number, or that there is none.
-#[derive(Clone, Copy)]
+#[derive(Clone, Copy, Debug)]
 struct Shown(OptionalNumber);
 
 impl fmt::Display for Shown {
@@ -17,22 +18,21 @@ impl fmt::Display for Shown {
     }
 }
 
-// What an estimator answers over all its channels, so many: the log2 figure, the same in decibels, and the quality of each channel.
+// What an estimator answers over all its channels: the log2 figure, the same in decibels, and the quality of each channel.
 // The two estimators that have these fill them in themselves: a trait over both would be longer than what they fill in.
-#[derive(Clone, Copy)]
-pub struct FullReadings {
-    pub num_channels: usize,
+#[derive(Clone, Copy, Debug)]
+pub struct FullReadings<'a> {
     pub log2: Result<f32, Refusal>,
     pub db: Result<f32, Refusal>,
-    pub qualities: [Result<OptionalNumber, Refusal>; 4],
+    pub qualities: &'a [Result<OptionalNumber, Refusal>],
 }
 
-impl fmt::Display for FullReadings {
+impl fmt::Display for FullReadings<'_> {
     fn fmt<W: fmt::Write>(&self, f: &mut fmt::Formatter<W>) -> fmt::Result {
         let log2 = OrRefused(self.log2.map(Bits));
         let db = OrRefused(self.db.map(Bits));
         write!(f, "full {log2} {db}")?;
-        for quality in self.qualities.iter().take(self.num_channels) {
+        for quality in self.qualities {
             write!(f, " {}", OrRefused(quality.map(Shown)))?;
         }
         writeln!(f)
@@ -40,13 +40,7 @@ impl fmt::Display for FullReadings {
 }
 
 // What a channel holds: its hold, its points, its figure, and the rest.
-#[derive(Clone, Copy)]
-pub struct FullbandState<'a> {
-    pub index: usize,
-    pub channel: &'a FullBandChannel,
-}
-
-impl fmt::Display for FullbandState<'_> {
+impl fmt::Display for ChannelState<'_, FullBandChannel> {
     fn fmt<W: fmt::Write>(&self, f: &mut fmt::Formatter<W>) -> fmt::Result {
         let c = self.index;
         let hold = self.channel.hold_counter_time_domain;
@@ -58,7 +52,7 @@ impl fmt::Display for FullbandState<'_> {
 }
 
 // Sums, extremes, the log2 of the ratio, and the quality before clamping.
-#[derive(Clone, Copy)]
+#[derive(Clone, Copy, Debug)]
 struct Inner(ErleInstantaneous);
 
 impl fmt::Display for Inner {
@@ -71,5 +65,47 @@ impl fmt::Display for Inner {
         let log2 = Shown(inst.erle_log2);
         let quality = Bits(inst.inst_quality_estimate);
         write!(f, "{y2} {e2} {greatest} {least} {log2} {quality}")
+    }
+}
+
+#[cfg(test)]
+mod tests {
+    use super::*;
+    use std::test::Fail;
+
+    // A number of a line is the number's bits.
+    #[test]
+    fn shows_readings_and_their_refusals(rt: HostRuntime) -> Result<(), Fail> {
+        let readings = FullReadings {
+            log2: Ok(1.0),
+            db: Err(Refusal::BadState),
+            qualities: &[
+                Ok(OptionalNumber::Number(0.5)),
+                Ok(OptionalNumber::Absent),
+                Err(Refusal::BadChannelCount),
+            ],
+        };
+        let text = format!(in rt.alloc(); "{readings}")?;
+        assert_eq!(rt;
+            text.as_str(),
+            "full 3F800000 refused 20 3F000000 absent refused 2\n"
+        );
+        Ok(())
+    }
+
+    // A channel as a start leaves it: no point yet, the extremes at -10 and 33.
+    #[test]
+    fn shows_a_fullband_channel(rt: HostRuntime) -> Result<(), Fail> {
+        let channel = FullBandChannel::new(1.0);
+        let state = ChannelState {
+            index: 3,
+            channel: &channel,
+        };
+        let text = format!(in rt.alloc(); "{state}")?;
+        assert_eq!(rt;
+            text.as_str(),
+            "fullstate 3 0 0 3F800000 00000000 00000000 C1200000 42040000 absent 00000000\n"
+        );
+        Ok(())
     }
 }

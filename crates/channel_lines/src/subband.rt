@@ -1,16 +1,11 @@
 // The inner state of a subband channel.
+use crate::ChannelState;
 use script::{Digits, Figures, Row};
 use std::fmt;
 use subband_erle_estimator::SubbandChannel;
 
 // What a channel holds besides its streams.
-#[derive(Clone, Copy)]
-pub struct SubbandState<'a> {
-    pub index: usize,
-    pub channel: &'a SubbandChannel,
-}
-
-impl fmt::Display for SubbandState<'_> {
+impl fmt::Display for ChannelState<'_, SubbandChannel> {
     fn fmt<W: fmt::Write>(&self, f: &mut fmt::Formatter<W>) -> fmt::Result {
         let c = self.index;
         let channel = self.channel;

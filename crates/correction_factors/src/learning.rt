@@ -1,12 +1,12 @@
 // How updates, estimates, references and factors move, subband by subband.
-ghost use Rattle.std.specs.Prelude.{◌≡◌, cond, ℕ, ◌<◌, length, get_or};
+ghost use Rattle.std.specs.Prelude.{◌≡◌, cond, ℕ, ◌<◌, get_or};
 ghost use Rattle.std.specs.Float.{nan};
 ghost use Rattle.aec3_common.specs.Counts.{one_more};
 ghost use Rattle.aec3_common.specs.Lists.{tab};
 ghost use Rattle.correction_factors.specs.Factors.{factor_moved, erle_moved, subband_of, where_learning};
-ghost use Rattle.correction_factors.specs.Steps.{EachOfEight, LearningChanged, lesson_at, lesson_in, moved_in};
+ghost use Rattle.correction_factors.specs.Steps.{LearningChanged, lesson_at, lesson_in, moved_in};
 
-use crate::lessons::Lesson;
+use crate::lessons::{Lesson, Lessons};
 use aec3_common::counts::one_more;
 use aec3_common::entries::change;
 use aec3_common::{ErleLimits, clamp, moved};
@@ -17,28 +17,21 @@ const MIN_UPDATES_FOR_CORRECTION: u32 = 50;
 
 // In each subband, the entry of the section that learns, as a function makes it of the subband, of its place in the table and of what it was.
 // One `change` of the whole table was tried, and a channel's update took nearly twice as many instructions.
-fn change_learning<F: Fn(usize, usize, f32) -> f32>(
-    table: &mut [f32; 48],
-    lessons: &[Lesson; 6],
-    f: F,
-)
-    requires table_len { length table.old ≡ 48 }
-    requires by_index { EachOfEight lessons.now }
+fn change_learning<F: Fn(usize, usize, f32) -> f32>(table: &mut [f32; 48], lessons: &Lessons, f: F)
     requires callable { (s j : ℕ) (x : _) → s < 6 → j < 48 → F.pre f s j x }
-    ensures { LearningChanged (F.post f) (λ s. (lesson_at lessons.now s).section) table.old table.new }
+    ensures { LearningChanged (F.post f) (λ s. (lesson_at lessons.now.subbands s).section) table.old table.new }
 {
-    for (s, lesson) in lessons.iter().enumerate() {
+    for (s, lesson) in lessons.subbands.iter().enumerate() {
         let j = lesson.section * 6 + s;
         table[j] = f(s, j, table[j]);
     }
 }
 
-pub fn count_updates(updates: &mut [u32; 6], lessons: &[Lesson; 6])
-    requires { length updates.old ≡ 6 }
-    ensures { updates.new ≡ tab 6 (λ s. cond (lesson_at lessons.now s).updated (one_more (get_or updates.old s 0)) (get_or updates.old s 0)) }
+pub fn count_updates(updates: &mut [u32; 6], lessons: &Lessons)
+    ensures { updates.new ≡ tab 6 (λ s. cond (lesson_at lessons.now.subbands s).updated (one_more (get_or updates.old s 0)) (get_or updates.old s 0)) }
 {
     change(updates, 0, 6, |s, n| {
-        if lessons[s].ratio.is_some() {
+        if lessons.subbands[s].ratio.is_some() {
             one_more(n)
         } else {
             n
@@ -60,31 +53,28 @@ fn moved_erle(erle: f32, lesson: Lesson, limits: ErleLimits, s: usize) -> f32
     clamp(moved(erle, new, share), limits.min, max)
 }
 
-pub fn move_references(references: &mut [f32; 6], limits: ErleLimits, lessons: &[Lesson; 6])
-    requires { length references.old ≡ 6 }
-    ensures { references.new ≡ tab 6 (λ s. moved_in limits.min limits.max_l limits.max_h s (lesson_at lessons.now s) (get_or references.old s nan)) }
+pub fn move_references(references: &mut [f32; 6], limits: ErleLimits, lessons: &Lessons)
+    ensures { references.new ≡ tab 6 (λ s. moved_in limits.min limits.max_l limits.max_h s (lesson_at lessons.now.subbands s) (get_or references.old s nan)) }
 {
     change(references, 0, 6, |s, erle| {
-        moved_erle(erle, lessons[s], limits, s)
+        moved_erle(erle, lessons.subbands[s], limits, s)
     });
 }
 
 // The estimate of each subband's least active section.
-pub fn move_estimates(estimates: &mut [f32; 48], limits: ErleLimits, lessons: &[Lesson; 6])
-    requires estimates_len { length estimates.old ≡ 48 }
-    requires by_index { EachOfEight lessons.now }
-    ensures { estimates.new ≡ where_learning (λ s. (lesson_at lessons.now s).section) (λ j e. moved_in limits.min limits.max_l limits.max_h (subband_of j) (lesson_at lessons.now (subband_of j)) e) estimates.old }
+pub fn move_estimates(estimates: &mut [f32; 48], limits: ErleLimits, lessons: &Lessons)
+    ensures { estimates.new ≡ where_learning (λ s. (lesson_at lessons.now.subbands s).section) (λ j e. moved_in limits.min limits.max_l limits.max_h (subband_of j) (lesson_at lessons.now.subbands (subband_of j)) e) estimates.old }
 {
     change_learning(estimates, lessons, |s, _, erle| {
-        moved_erle(erle, lessons[s], limits, s)
+        moved_erle(erle, lessons.subbands[s], limits, s)
     });
 }
 
 #[tactic(auto, unfolding(crate::specs::Factors::factor_moved))]
-fn moved_factor(factor: f32, updated: bool, updates: u32, estimate: f32, reference: f32) -> f32
-    ensures { result ≡ factor_moved updated updates estimate reference factor }
+fn moved_factor(factor: f32, lesson: Lesson, updates: u32, estimate: f32, reference: f32) -> f32
+    ensures { result ≡ factor_moved (lesson_in lesson).updated updates estimate reference factor }
 {
-    if updated & (updates > MIN_UPDATES_FOR_CORRECTION) & (reference > 0.0) {
+    if lesson.ratio.is_some() & (updates > MIN_UPDATES_FOR_CORRECTION) & (reference > 0.0) {
         moved(factor, estimate / reference, 0.1)
     } else {
         factor
@@ -97,16 +87,14 @@ pub fn move_factors(
     estimates: &[f32; 48],
     references: &[f32; 6],
     updates: &[u32; 6],
-    lessons: &[Lesson; 6],
+    lessons: &Lessons,
 )
-    requires factors_len { length factors.old ≡ 48 }
-    requires by_index { EachOfEight lessons.now }
-    ensures { factors.new ≡ where_learning (λ s. (lesson_at lessons.now s).section) (λ j f. factor_moved (lesson_at lessons.now (subband_of j)).updated (get_or updates.now (subband_of j) 0) (get_or estimates.now j nan) (get_or references.now (subband_of j) nan) f) factors.old }
+    ensures { factors.new ≡ where_learning (λ s. (lesson_at lessons.now.subbands s).section) (λ j f. factor_moved (lesson_at lessons.now.subbands (subband_of j)).updated (get_or updates.now (subband_of j) 0) (get_or estimates.now j nan) (get_or references.now (subband_of j) nan) f) factors.old }
 {
     change_learning(factors, lessons, |s, j, factor| {
         moved_factor(
             factor,
-            lessons[s].ratio.is_some(),
+            lessons.subbands[s],
             updates[s],
             estimates[j],
             references[s],

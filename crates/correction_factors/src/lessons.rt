@@ -1,9 +1,9 @@
 // What an update brings to each subband: its new ratio, and the section that learns.
-ghost use Rattle.std.specs.Prelude.{◌≡◌, None, Some, ℕ, ◌≤◌, ◌<◌, length, if◌then◌else◌};
+ghost use Rattle.std.specs.Prelude.{◌≡◌, None, Some, ℕ, ◌≤◌, ◌<◌, if◌then◌else◌};
 ghost use Rattle.std.specs.Float.{binary32};
 ghost use Rattle.std.specs.Float.Ieee.{div};
 ghost use Rattle.correction_factors.specs.Factors.{is_updated, least_active, lesson_of};
-ghost use Rattle.correction_factors.specs.Steps.{lesson_at};
+ghost use Rattle.correction_factors.specs.Steps.{EachOfEight, lesson_at};
 
 use crate::subbands::in_subband;
 use aec3_common::X2_BAND_ENERGY_THRESHOLD;
@@ -14,6 +14,26 @@ use std::array;
 pub struct Lesson {
     pub ratio: Option<f32>,
     pub section: usize,
+}
+
+// The lessons of all subbands, each of one of eight sections.
+#[derive(Clone, Copy, Debug)]
+pub struct Lessons {
+    pub subbands: [Lesson; 6],
+    ghost of_eight: { EachOfEight subbands },
+}
+
+// What a converged channel learns from: how many sections its filter has, the active section of each band, and the subband sums of render,
+// capture and residual in a block.
+#[derive(Clone, Copy, Debug)]
+pub struct SubbandBlock<'a> {
+    pub num_sections: usize,
+    pub active: &'a [u32; 65],
+    pub x2: &'a [f32; 6],
+    pub y2: &'a [f32; 6],
+    pub e2: &'a [f32; 6],
+    ghost some_sections: { 1 ≤ num_sections },
+    ghost few_sections: { num_sections ≤ 8 },
 }
 
 #[tactic(auto, unfolding(crate::specs::Factors::is_updated))]
@@ -33,32 +53,27 @@ fn new_ratio(x2: f32, y2: f32, e2: f32) -> Option<f32>
     }
 }
 
-// The least active section of a subband's bands; none is above the last section.
-#[tactic(auto, unfolding(crate::specs::Factors::least_active))]
-fn least_active(active: &[u32; 65], sections: usize, subband: usize) -> usize
-    requires { (1 ≤ sections) × (sections ≤ 8) }
-    ensures { result ≡ least_active sections active.now subband }
-{
-    let last = sections as u32 - 1;
-    let least = in_subband(active, subband)
-        .iter()
-        .fold(last, |least, &section| least.min(section));
-    least as usize
-}
+impl SubbandBlock<'_> {
+    // The least active section of a subband's bands; none is above the last section.
+    #[tactic(auto, unfolding(crate::specs::Factors::least_active))]
+    fn least_active(&self, subband: usize) -> usize
+        ensures { result ≡ least_active self.now.num_sections self.now.active.now subband }
+    {
+        let last = self.num_sections as u32 - 1;
+        let active = self.active;
+        let least = in_subband(active, subband)
+            .iter()
+            .fold(last, |least, &section| least.min(section));
+        least as usize
+    }
 
-// The lessons of all subbands.
-pub fn lessons_of(
-    sections: usize,
-    active: &[u32; 65],
-    x2: &[f32; 6],
-    y2: &[f32; 6],
-    e2: &[f32; 6],
-) -> [Lesson; 6]
-    requires { (1 ≤ sections) × (sections ≤ 8) }
-    ensures { (s : ℕ) → s < 6 → lesson_at result s ≡ lesson_of sections active.now x2.now y2.now e2.now s }
-{
-    array::from_fn(|s| Lesson {
-        ratio: new_ratio(x2[s], y2[s], e2[s]),
-        section: least_active(active, sections, s),
-    })
+    pub(crate) fn lessons(&self) -> Lessons
+        ensures { (s : ℕ) → s < 6 → lesson_at result.subbands s ≡ lesson_of self.now.num_sections self.now.active.now self.now.x2.now self.now.y2.now self.now.e2.now s }
+    {
+        let subbands = array::from_fn(|s| Lesson {
+            ratio: new_ratio(self.x2[s], self.y2[s], self.e2[s]),
+            section: self.least_active(s),
+        });
+        Lessons { subbands }
+    }
 }

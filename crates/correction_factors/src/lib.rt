@@ -6,16 +6,17 @@ mod lessons;
 mod streams;
 mod subbands;
 
-ghost use Rattle.std.specs.Prelude.{◌≡◌, ◌≤◌};
+ghost use Rattle.std.specs.Prelude.{◌≡◌};
 ghost use Rattle.correction_factors.specs.Factors.{fresh_factors, lesson_of, learnt};
 
 use aec3_common::ErleLimits;
 use learning::{count_updates, move_estimates, move_factors, move_references};
-use lessons::lessons_of;
+pub use lessons::SubbandBlock;
 pub use streams::{band_factors, copy_last, correct_stream};
 pub use subbands::subband_sums;
 
-// Estimates and factors stand section by section, eight times six subbands; references and updates for each subband.
+// Estimates and factors stand section by section, eight times six subbands; references and updates for each subband. Four tables of their own
+// and flat ones: definitions number the entries by one index, and each table is moved, read and printed by itself.
 #[derive(Clone, Copy, Debug)]
 pub struct CorrectionFactors {
     pub erle_estimators: [f32; 48],
@@ -37,21 +38,11 @@ impl CorrectionFactors {
         }
     }
 
-    // One update of a converged channel, by its active sections and the subband sums of render, capture and residual. Six parameters: a
-    // struct of what an update goes by would be made for this one call and taken apart in it.
-    pub fn update(
-        mut self,
-        limits: ErleLimits,
-        sections: usize,
-        active: &[u32; 65],
-        x2: &[f32; 6],
-        y2: &[f32; 6],
-        e2: &[f32; 6],
-    ) -> CorrectionFactors
-        requires { (1 ≤ sections) × (sections ≤ 8) }
-        ensures { result ≡ learnt limits.min limits.max_l limits.max_h (lesson_of sections active.now x2.now y2.now e2.now) self }
+    // One update of a converged channel, by what it learns from.
+    pub fn update(mut self, limits: ErleLimits, block: &SubbandBlock) -> CorrectionFactors
+        ensures { result ≡ learnt limits.min limits.max_l limits.max_h (lesson_of block.now.num_sections block.now.active.now block.now.x2.now block.now.y2.now block.now.e2.now) self }
     {
-        let lessons = lessons_of(sections, active, x2, y2, e2);
+        let lessons = block.lessons();
         count_updates(&mut self.num_updates, &lessons);
         move_estimates(&mut self.erle_estimators, limits, &lessons);
         move_references(&mut self.erle_ref, limits, &lessons);

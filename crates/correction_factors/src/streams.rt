@@ -59,7 +59,7 @@ pub fn correct_stream(
     factors: &[f32; 65],
     limits: ErleLimits,
 )
-    requires { (length stream.old ≡ 65) × (length average.now ≡ 65) }
+    requires { length average.now ≡ 65 }
     ensures { stream.new ≡ last_copied (corrected_by limits.min limits.max_l limits.max_h factors.now average.now) }
 {
     change(stream, 0, 65, |k, _| {

@@ -1,12 +1,12 @@
 -- Digits that are written into a table from its end towards its front.
-use mathlib.Core.Path.{◌≡◌, refl, ◌∙◌}
+use mathlib.Core.Path.{◌≡◌, refl, ap, ◌∙◌}
 use mathlib.Core.Bool.{Bool, true, false, cond}
 use mathlib.Core.List.{List, [], ◌∷◌, ◌++◌}
-use Prim.Native.Nat.{ℕ, zero, suc, ◌-◌, ◌/◌, ◌%◌, ◌≤◌, ◌<◌}
+use Prim.Native.Nat.{ℕ, zero, suc, ◌-◌, ◌*◌, ◌/◌, ◌%◌, ◌^◌, ◌≤◌, ◌<◌}
 use native.Mathlib.Omega.{arith}
 use lib.Dec.{ltb}
-use lib.ListN.{length, set, take, drop, length-set, length-drop, length-append}
-use lib.Seq.{drop-cons, get_or-set_same, drop-set-lt, take_all, append_snoc}
+use lib.ListN.{get_or, length, set, take, drop, length-set, length-drop, length-append}
+use lib.Seq.{ext_get_or, drop-cons, get_or-set_same, drop-set-lt, take_all, append_snoc}
 use borrow.Author.Tests.{lt-ltb, le-ltb}
 use Rattle.encoding.specs.Text.{digit, hex_digits, hex8, decimal_digits, decimal}
 
@@ -46,18 +46,21 @@ pub spelt-front : {size : ℕ} {left text table : List ℕ} {from : ℕ} → Spe
 spelt-front {from = zero} w e h = spelt-all w e
 spelt-front {from = suc j} w e h = absurd (omega arith)
 
-pub hex-none : (k n : ℕ) → k ≤ 0 → hex_digits k n ≡ []
+-- a table whose entries are the digits of a number of 32 bits is their text
+pub hex8-is : (n : ℕ) (l : List ℕ) → length l ≡ 8 → ((i : ℕ) → i < 8 → get_or l i 0 ≡ digit (n / 2 ^ (28 - 4 * i) % 16)) → l ≡ hex8 n
 unfolding hex_digits
-hex-none zero n h = refl
-hex-none (suc k) n h = absurd (omega arith)
-
--- the last k digits are those before the last, and it
-pub hex-last : (k n : ℕ) → 0 < k → hex_digits k n ≡ hex_digits (k - 1) (n / 16) ++ (digit (n % 16) ∷ [])
-unfolding hex_digits
-hex-last zero n h = absurd (omega arith)
-hex-last (suc k) n h =
-    let p : suc k - 1 ≡ k = omega arith in
-    rw p
+hex8-is n l long each = ext_get_or 0 l (hex8 n) long at
+  where
+    at : (i : ℕ) → i < length l → get_or l i 0 ≡ get_or (hex8 n) i 0
+    at zero h = each 0 (omega arith) ∙ ap (λ q. digit (q % 16)) (omega arith)
+    at (suc zero) h = each 1 (omega arith) ∙ ap (λ q. digit (q % 16)) (omega arith)
+    at (suc (suc zero)) h = each 2 (omega arith) ∙ ap (λ q. digit (q % 16)) (omega arith)
+    at (suc (suc (suc zero))) h = each 3 (omega arith) ∙ ap (λ q. digit (q % 16)) (omega arith)
+    at (suc (suc (suc (suc zero)))) h = each 4 (omega arith) ∙ ap (λ q. digit (q % 16)) (omega arith)
+    at (suc (suc (suc (suc (suc zero))))) h = each 5 (omega arith) ∙ ap (λ q. digit (q % 16)) (omega arith)
+    at (suc (suc (suc (suc (suc (suc zero)))))) h = each 6 (omega arith) ∙ ap (λ q. digit (q % 16)) (omega arith)
+    at (suc (suc (suc (suc (suc (suc (suc zero))))))) h = each 7 (omega arith) ∙ ap (λ q. digit (q % 16)) (omega arith)
+    at (suc (suc (suc (suc (suc (suc (suc (suc i)))))))) h = absurd (omega (arith, long))
 
 -- the last k decimal digits of a number of two digits or more are its tenth's, and the last one
 pub decimal-last : (k n : ℕ) → 0 < k → 10 ≤ n → decimal_digits k n ≡ decimal_digits (k - 1) (n / 10) ++ (digit (n % 10) ∷ [])

@@ -1,14 +1,16 @@
 -- Text written over a list, piece by piece.
-use mathlib.Core.Path.{◌≡◌, sym, ap, ◌∙◌}
+use mathlib.Core.Path.{◌≡◌, refl, sym, ap, ◌∙◌}
+use mathlib.Core.Bool.{Bool, true, false, cond}
 use mathlib.Core.List.{List, [], ◌++◌, append_assoc, append-nil}
 use Prim.Native.Nat.{ℕ, ◌+◌, ◌≤◌, ◌<◌}
 use native.Mathlib.Nat.{add-zero}
 use native.Mathlib.Omega.{arith}
 use lib.ListN.{length, take, drop, length-append, length-drop, take-append-drop}
 use lib.Seq.{length-take-le, take_at, drop_at, drop-drop}
-use borrow.Author.Tests.{le-leb, lt-leb}
+use borrow.Author.Tests.{le-leb, lt-leb, leb-true, leb-false}
 use borrow.Rule.Slice.PartMut.{put_mid}
-use Rattle.encoding.specs.Text.{laid, written, after}
+use Rattle.std.specs.Prelude.{Some, None}
+use Rattle.encoding.specs.Text.{room, laid, written, place_behind}
 
 module _ (d : List ℕ) (at : ℕ) (s : List ℕ) where
   -- where there is room, all of the text is laid over the list
@@ -17,9 +19,9 @@ module _ (d : List ℕ) (at : ℕ) (s : List ℕ) where
     unfolding written
     written-room = rw (le-leb (at + length s) (length d) h)
 
-    pub after-room : after d at s ≡ at + length s
-    unfolding after
-    after-room = rw (le-leb (at + length s) (length d) h)
+    pub behind-room : place_behind d at s ≡ Some (at + length s)
+    unfolding place_behind
+    behind-room = rw (le-leb (at + length s) (length d) h)
 
     length-head : length (take at d ++ s) ≡ at + length s
     length-head = length-append (take at d) s ∙ rw (length-take-le at d (omega arith))
@@ -36,12 +38,9 @@ module _ (d : List ℕ) (at : ℕ) (s : List ℕ) where
     unfolding written
     written-full = rw (lt-leb (at + length s) (length d) h)
 
-    pub after-full : after d at s ≡ at
-    unfolding after
-    after-full = rw (lt-leb (at + length s) (length d) h)
-
-    pub no_room : (d ≡ written d at s) × (at ≡ after d at s)
-    no_room = (sym written-full, sym after-full)
+    pub behind-full : place_behind d at s ≡ None
+    unfolding place_behind
+    behind-full = rw (lt-leb (at + length s) (length d) h)
 
 -- a part of a list that a text is copied over
 pub put_mid-laid : (d : List ℕ) (at k : ℕ) (s : List ℕ) → k ≡ length s → put_mid at k d s ≡ laid d at s
@@ -54,15 +53,29 @@ pub record Wrote (d : List ℕ) (at : ℕ) (s e : List ℕ) (next : ℕ) : Type 
   pub text : e ≡ laid d at s
   pub place : next ≡ at + length s
 
--- from what a function ensures that writes, where there is room
-pub wrote : (d : List ℕ) (at : ℕ) (s e : List ℕ) (next : ℕ) → at + length s ≤ length d → (e ≡ written d at s) × (next ≡ after d at s) → Wrote d at s e next
-wrote d at s e next h w =
-    record { room = h; text = w.0 ∙ written-room d at s h; place = w.1 ∙ after-room d at s h }
+-- from what a function ensures that writes, where it answers a place
+pub wrote : (d : List ℕ) (at : ℕ) (s e : List ℕ) (next : ℕ) → Some next ≡ place_behind d at s → e ≡ written d at s → Wrote d at s e next
+unfolding place_behind
+wrote d at s e next place text = go (room d at s) refl place
+  where
+    go : (b : Bool) → room d at s ≡ b → Some next ≡ cond b (Some (at + length s)) None → Wrote d at s e next
+    go true fits q =
+        let h = leb-true (at + length s) (length d) fits in
+        let same : next ≡ at + length s = cc in
+        record { room = h; text = text ∙ written-room d at s h; place = same }
+    go false full q = cc
 
--- and back
-pub wrote-all : {d : List ℕ} {at : ℕ} {s e : List ℕ} {next : ℕ} → Wrote d at s e next → (e ≡ written d at s) × (next ≡ after d at s)
-wrote-all {d = d} {at = at} {s = s} w =
-    (w.text ∙ sym (written-room d at s w.room), w.place ∙ sym (after-room d at s w.room))
+-- and where it answers none there is no room, and nothing is written
+pub full : (d : List ℕ) (at : ℕ) (s : List ℕ) → None ≡ place_behind d at s → room d at s ≡ false
+unfolding place_behind
+full d at s place = go (room d at s) place
+  where
+    go : (b : Bool) → None ≡ cond b (Some (at + length s)) None → b ≡ false
+    go true q = cc
+    go false q = refl
+
+pub unwritten : (d : List ℕ) (at : ℕ) (s e : List ℕ) → None ≡ place_behind d at s → e ≡ written d at s → e ≡ d
+unwritten d at s e place text = text ∙ written-full d at s (leb-false (at + length s) (length d) (full d at s place))
 
 -- no write changes the length
 pub wrote-long : {d : List ℕ} {at : ℕ} {s e : List ℕ} {next : ℕ} → Wrote d at s e next → length e ≡ length d

@@ -1,7 +1,7 @@
 -- Text in ASCII, and what becomes of a list that it is written over.
 use Prim.Native.Char.{code}
 use Prim.Native.String.{String, [] as []ˢ, ◌∷◌ as ◌∷ˢ◌}
-use Rattle.std.specs.Prelude.{ℕ, zero, suc, ◌+◌, ◌-◌, ◌/◌, ◌%◌, Bool, cond, List, [], ◌∷◌, ◌++◌, leb, ltb, length, take, drop}
+use Rattle.std.specs.Prelude.{ℕ, zero, suc, ◌+◌, ◌-◌, ◌/◌, ◌%◌, Bool, cond, List, [], ◌∷◌, ◌++◌, leb, ltb, length, take, drop, Option, Some, None}
 
 -- a text's bytes; the definitions write ASCII alone
 abbrev pub ascii : String → List ℕ
@@ -20,9 +20,9 @@ room d at s = leb (at + length s) (length d)
 unfoldable pub written : List ℕ → ℕ → List ℕ → List ℕ
 written d at s = cond (room d at s) (laid d at s) d
 
--- and the place that it answers: the one after s, or, where there is no room for all, the same
-unfoldable pub after : List ℕ → ℕ → List ℕ → ℕ
-after d at s = cond (room d at s) (at + length s) at
+-- and the place that it answers: the one behind s, or, where there is no room for all, none
+unfoldable pub place_behind : List ℕ → ℕ → List ℕ → Option ℕ
+place_behind d at s = cond (room d at s) (Some (at + length s)) None
 
 -- a digit: 0 to 9, then A to F
 unfoldable pub digit : ℕ → ℕ

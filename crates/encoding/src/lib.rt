@@ -6,4 +6,4 @@ pub mod bytes;
 pub mod text;
 
 pub use bytes::{bits_of, byte_at, float_of, half_at, word_at};
-pub use text::{put_bytes, put_decimal, put_hex8};
+pub use text::{decimal_digits, hex_digits, put_bytes};

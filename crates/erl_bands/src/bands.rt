@@ -30,6 +30,8 @@ pub fn new_erls(render: &[f32; 65], capture: &[f32; 65]) -> [f32; 65]
     array::from_fn(|k| new_erl(render[k], capture[k]))
 }
 
+// The rules of `Figure` once more, for a hold and for an ERL apart: with one loop that makes a figure of each band, an update took up to 15 %
+// longer, though fewer instructions. What they share is written once (`moved_down`, `doubled`), and both are proved against one definition.
 #[tactic(auto, unfolding(crate::specs::Steps::hold_by, crate::specs::Figure::learnt_hold))]
 fn hold_after(new: f32, erl: f32, hold: i32) -> i32
     ensures { result ≡ hold_by new erl hold }

@@ -1,3 +1,4 @@
 pub mod Range
+mod Judged
 mod Steps
 mod Updates

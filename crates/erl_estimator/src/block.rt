@@ -12,6 +12,7 @@ use aec3_common::spectra::are_spectra;
 
 // As a call lends it: the counts of channels, the capture channels' flags, and the spectra of all render and of all capture channels, one
 // behind the other. Each spectrum has 65 numbers.
+// The counts stand beside the slices since a call tells both: number 2 judges the counts, and number 5 the lengths by them.
 #[derive(Clone, Copy, Debug)]
 pub struct ErlBlock<'a> {
     pub num_capture_channels: usize,

@@ -19,6 +19,8 @@ use erl_bands::bands::{moved_erl, moved_holds, new_erls};
 use erl_bands::figure::{Figure, MAX_ERL};
 use reduce::{all_reduced, first_converged, reduced_from};
 
+// The fields are the Rust's, by its names, and callers read `erl` and `erl_time_domain` here. So a hold lies apart from its ERL, though the
+// rules go by both (`Figure`); and bands 0 and 64 have no hold.
 #[derive(Clone, Copy, Debug, PartialEq)]
 pub struct ErlEstimator {
     pub erl: [f32; 65],

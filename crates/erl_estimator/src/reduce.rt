@@ -43,6 +43,7 @@ pub fn reduced_from(spectra: &[f32], flags: &[bool], first: usize) -> [f32; 65]
 {
     let mut r = [0.0; 65];
     r.copy_from_slice(part(spectra, first));
+    // By an index: with `flags.iter().enumerate().skip(first + 1)` an update took 5 to 15 % more instructions.
     for ch in first + 1..flags.len() {
         if flags[ch] {
             raise(&mut r, part(spectra, ch));
@@ -51,7 +52,8 @@ pub fn reduced_from(spectra: &[f32], flags: &[bool], first: usize) -> [f32; 65]
     r
 }
 
-// The greatest over all channels, of which there are one or two.
+// The greatest over all channels, of which there are one or two. The count is the caller's, which the call was judged by: from the length it
+// would be a division here and in the clauses, and the caller would have to prove that it is the same.
 pub fn all_reduced(spectra: &[f32], channels: usize) -> [f32; 65]
     requires channels_nonzero { (0 < channels) × (channels ≤ 2) }
     requires spectra_len { length spectra.now ≡ channels * 65 }

@@ -1,6 +1,6 @@
 -- One band of one channel of the subband estimator: what it holds, in three parts, and how a block moves each. The rule of each field has
 -- a name and stands once.
-use Rattle.std.specs.Prelude.{Bool, true, false, cond, ◌&&◌, ◌||◌, ℕ, ℤ, pos, Float}
+use Rattle.std.specs.Prelude.{Bool, true, false, cond, ◌&&◌, ◌||◌, if◌then◌else◌, Option, None, Some, ℕ, ℤ, pos, Float}
 use Rattle.std.specs.Int.Signed.{le_z}
 use Rattle.std.specs.Float.{binary32}
 use Rattle.std.specs.Float.Ieee.{of_bits, add, mul, div, lt}
@@ -63,6 +63,9 @@ has_ratio residual = lt zero32 residual
 
 abbrev pub ratio : Float → Float → Float
 ratio capture residual = div binary32 capture residual
+
+abbrev pub new_ratio : Float → Float → Option Float
+new_ratio capture residual = if has_ratio residual then Some (ratio capture residual) else None
 
 -- ---- which bands
 

@@ -1,10 +1,11 @@
 -- What inner functions of the code promise of all bands, by the rules of one band; no part of the definition.
-use Rattle.std.specs.Prelude.{Bool, false, cond, List, ℕ, ℤ, pos, Float, get_or}
+use Rattle.std.specs.Prelude.{Bool, false, cond, ◌&&◌, Option, None, List, ℕ, ℤ, pos, is_some, unwrap_or, Float, get_or}
 use Rattle.std.specs.Float.{nan}
 use Rattle.aec3_common.specs.Lists.{tab}
+use Rattle.aec3_common.specs.Spectra.{inner_band}
 use Rattle.filter_sections.specs.Subbands.{max_erle}
 use Rattle.aec3_common.specs.declared.settings.ErleLimits.{ErleLimits}
-use Rattle.erle_bands.specs.Band.{sum_with, low_with, ratio, learns, hold_falls, stream_moved, waits_learnt, hold_learnt, hold_less, compensated_beside, waits_beside}
+use Rattle.erle_bands.specs.Band.{sum_with, low_with, new_ratio, hold_falls, stream_moved, waits_learnt, hold_learnt, hold_less, compensated_beside, waits_beside}
 
 -- each band that passes the test changed by f; the others as they were
 abbrev pub bands_where : {A : Type 0} → A → (ℕ → Bool) → List A → (ℕ → A → A) → List A
@@ -18,24 +19,24 @@ sums_with anew sums powers = tab 65 (λ k. sum_with anew (get_or sums k nan) (ge
 unfoldable pub lows_with : Bool → List Bool → List Float → List Bool
 lows_with anew lows renders = tab 65 (λ k. low_with anew (get_or lows k false) (get_or renders k nan))
 
-unfoldable pub ratios_of : List Float → List Float → List Float
-ratios_of captures residuals = tab 65 (λ k. ratio (get_or captures k nan) (get_or residuals k nan))
+unfoldable pub ratios_of : List Float → List Float → List (Option Float)
+ratios_of captures residuals = tab 65 (λ k. new_ratio (get_or captures k nan) (get_or residuals k nan))
 
 -- ---- new ratios, in the bands that learn
 
-abbrev pub band_learns : List Float → ℕ → Bool
-band_learns residuals k = learns k (get_or residuals k nan)
+abbrev pub band_learns : List (Option Float) → ℕ → Bool
+band_learns news k = inner_band k && is_some (get_or news k None)
 
-unfoldable pub all_streams_moved : ErleLimits → List Float → List Float → List Bool → List Float → List Float
-all_streams_moved limits news residuals lows olds =
-    bands_where nan (band_learns residuals) olds
-    (λ k old. stream_moved limits.min (max_erle limits.max_l limits.max_h k) (get_or news k nan) (get_or lows k false) old)
+unfoldable pub all_streams_moved : ErleLimits → List (Option Float) → List Bool → List Float → List Float
+all_streams_moved limits news lows olds =
+    bands_where nan (band_learns news) olds
+    (λ k old. stream_moved limits.min (max_erle limits.max_l limits.max_h k) (unwrap_or (get_or news k None) nan) (get_or lows k false) old)
 
-unfoldable pub all_waits_learnt : List Float → List Bool → List Bool → List Bool
-all_waits_learnt residuals lows waits = bands_where false (band_learns residuals) waits (λ k old. waits_learnt (get_or lows k false) old)
+unfoldable pub all_waits_learnt : List (Option Float) → List Bool → List Bool → List Bool
+all_waits_learnt news lows waits = bands_where false (band_learns news) waits (λ k old. waits_learnt (get_or lows k false) old)
 
-unfoldable pub all_holds_learnt : List Float → List Bool → List ℤ → List ℤ
-all_holds_learnt residuals lows holds = bands_where (pos 0) (band_learns residuals) holds (λ k old. hold_learnt (get_or lows k false) old)
+unfoldable pub all_holds_learnt : List (Option Float) → List Bool → List ℤ → List ℤ
+all_holds_learnt news lows holds = bands_where (pos 0) (band_learns news) holds (λ k old. hold_learnt (get_or lows k false) old)
 
 -- ---- one block less, in the bands whose hold falls
 

@@ -1,35 +1,16 @@
 // One band: how its streams move, how long it is held, how its compensated value decays.
-ghost use Rattle.std.specs.Prelude.{◌≡◌, cond, not, ◌&&◌};
-ghost use Rattle.erle_bands.specs.Band.{share as Band·share, stream_moved, sum_with, low_with, has_ratio as Band·has_ratio, hold_less, decayed as Band·decayed, compensated_beside, waits_beside};
+ghost use Rattle.std.specs.Prelude.{◌≡◌, cond, not, ◌&&◌, is_some, unwrap_or};
+ghost use Rattle.std.specs.Float.{nan};
+ghost use Rattle.erle_bands.specs.Band.{share as Band·share, stream_moved, new_ratio, hold_less, decayed as Band·decayed, compensated_beside, waits_beside};
 
 use aec3_common::counts::fallen;
-use aec3_common::{X2_BAND_ENERGY_THRESHOLD, clamp, larger, moved};
+use aec3_common::{clamp, larger, moved};
 
 // For so many blocks a band with a new ratio without low energy is held.
 pub const BLOCKS_FOR_ONSET_DETECTION: i32 = 250;
 
 // At so many blocks or less its compensated value decays.
 const BLOCKS_OF_DECAY: i32 = 150;
-
-// A held sum with a power added.
-#[tactic(auto, unfolding(crate::specs::Band::sum_with))]
-pub fn sum_with(sum: f32, power: f32, anew: bool) -> f32
-    ensures { result ≡ sum_with anew sum power }
-{
-    if anew { 0.0 + power } else { sum + power }
-}
-
-// Low energy noted, before or now.
-#[tactic(auto, unfolding(crate::specs::Band::low_with))]
-pub fn low_with(low: bool, x2: f32, anew: bool) -> bool
-    ensures { result ≡ low_with anew low x2 }
-{
-    if anew {
-        x2 < X2_BAND_ENERGY_THRESHOLD
-    } else {
-        low | (x2 < X2_BAND_ENERGY_THRESHOLD)
-    }
-}
 
 // The share of the difference by which a stream moves.
 fn share(new_erle: f32, low_render_energy: bool, erle: f32) -> f32
@@ -57,37 +38,34 @@ fn update_erle_band(
     clamp(moved(erle, new_erle, alpha), min_erle, max_erle)
 }
 
-// Whether there is a new ratio: the residual sum is above 0.
-fn has_ratio(e2: f32) -> bool
-    ensures { result ≡ Band·has_ratio e2 }
+// The ratio of the sums, where the residual sum is above 0.
+pub fn new_ratio(y2: f32, e2: f32) -> Option<f32>
+    ensures { result ≡ new_ratio y2 e2 }
 {
-    e2 > 0.0
+    if e2 > 0.0 { Some(y2 / e2) } else { None }
 }
 
-// The same where there is a new ratio; elsewhere the value stays. Six parameters: each is of a table of its own, and no other function has them
-// together.
+// The same where there is a new ratio; elsewhere the value stays.
 pub fn stream_by(
     erle: f32,
-    new_erle: f32,
-    e2: f32,
+    ratio: Option<f32>,
     low_render_energy: bool,
     min_erle: f32,
     max_erle: f32,
 ) -> f32
-    ensures { result ≡ cond (Band·has_ratio e2) (stream_moved min_erle max_erle new_erle low_render_energy erle) erle }
+    ensures { result ≡ cond (is_some ratio) (stream_moved min_erle max_erle (unwrap_or ratio nan) low_render_energy erle) erle }
 {
-    if has_ratio(e2) {
-        update_erle_band(erle, new_erle, low_render_energy, min_erle, max_erle)
-    } else {
-        erle
+    match ratio {
+        Some(new_erle) => update_erle_band(erle, new_erle, low_render_energy, min_erle, max_erle),
+        None => erle,
     }
 }
 
 // Whether there is one without low energy: then the band waits no longer, and its hold begins again.
-pub fn onset_by(e2: f32, low_render_energy: bool) -> bool
-    ensures { result ≡ Band·has_ratio e2 && not low_render_energy }
+pub fn onset_by(ratio: Option<f32>, low_render_energy: bool) -> bool
+    ensures { result ≡ is_some ratio && not low_render_energy }
 {
-    has_ratio(e2) & !low_render_energy
+    ratio.is_some() & !low_render_energy
 }
 
 // A hold one block later.

@@ -32,7 +32,7 @@ use Rattle.erle_estimator.specs.Erle.{Update, powers_of, active_in, after_block,
 use Rattle.erle_estimator.proofs.Judged.{signal-settings-passed, subband-settings-passed, fullband-settings-passed, subband-passed, fullband-passed, Accepted, accepted-call, fits}
 
 -- each part's settings
-module _ (g : ErleSettings) (held : InBinary32 g.min g.max_l g.max_h) (ok : settings_refusal g ≡ accepted) where
+module _ (g : ErleSettings) (held : InBinary32 g.limits.min g.limits.max_l g.limits.max_h) (ok : settings_refusal g ≡ accepted) where
   pub subband-settings-ok : SubbandSettingsOk (subband_settings g)
   subband-settings-ok = settings-ok (subband_settings g) held (subband-settings-passed g ok)
 
@@ -42,7 +42,7 @@ module _ (g : ErleSettings) (held : InBinary32 g.min g.max_l g.max_h) (ok : sett
 -- settings that pass, of values of binary32, and what each part keeps
 pub record Good (s : ErleEstimator) : Type 0 where
   pub settings : settings_refusal s.settings ≡ accepted
-  pub held : InBinary32 s.settings.min s.settings.max_l s.settings.max_h
+  pub held : InBinary32 s.settings.limits.min s.settings.limits.max_l s.settings.limits.max_h
   pub subband : SubbandKept (subband_settings s.settings) (subband_part s)
   pub signal : SignalKept (signal_settings s.settings) (signal_part s)
   pub fullband : FullBandKept (fullband_settings s.settings) (fullband_part s)
@@ -61,7 +61,7 @@ good-ok s good =
 -- ---- starts and resets
 
 pub started-good :
-    (startup blocks : ℕ) (g : ErleSettings) → InBinary32 g.min g.max_l g.max_h → settings_refusal g ≡ accepted
+    (startup blocks : ℕ) (g : ErleSettings) → InBinary32 g.limits.min g.limits.max_l g.limits.max_h → settings_refusal g ≡ accepted
     → Good (started_with startup blocks g)
 unfolding started_with Subband·started SignalDependent·started FullBand·started
 started-good startup blocks g held ok =
@@ -89,7 +89,7 @@ counted-good s good =
     record { settings = good.settings; held = good.held; subband = good.subband; signal = good.signal; fullband = good.fullband }
 
 -- a subband channel's streams are lent as averages
-module _ {g : SubbandSettings} (limits : AllInOrder g.min g.max_l g.max_h) {c : SubbandChannel} (kept : SubbandChannelKept g c) where
+module _ {g : SubbandSettings} (limits : AllInOrder g.limits.min g.limits.max_l g.limits.max_h) {c : SubbandChannel} (kept : SubbandChannelKept g c) where
   plain-lent : SpectrumOk c.erle
   plain-lent =
       record {
@@ -150,7 +150,7 @@ module _ (s : ErleEstimator) (u : Update) (a : Accepted s u) (good : Good s) whe
             (λ (r : SignalDependentErleEstimator).
             SignalKept (signal_settings g)
             (signal_part (with_records s s.blocks_since_reset s.subband r.channels s.fullband)))
-            (ltb 1 g.num_sections)
+            (ltb 1 g.layout.num_sections)
             (λ e. signal-updated (signal_settings g) ok signal (powers_of u) (active_in s u) _ _ good.signal (found-below (signal_settings g) ok signal u good.signal) all-lent)
             (λ e. good.signal);
         fullband =

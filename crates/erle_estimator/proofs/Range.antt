@@ -26,36 +26,36 @@ module _ (s : ErleEstimator) (good : Good s) where
   abbrev g : ErleSettings
   g = s.settings
 
-  limits : AllInOrder g.min g.max_l g.max_h
+  limits : AllInOrder g.limits.min g.limits.max_l g.limits.max_h
   limits = (subband-settings-ok g good.held good.settings).limits
 
   module _ (k : ℕ) where
-    pub limits-at : InOrder g.min (max_erle g.max_l g.max_h k)
+    pub limits-at : InOrder g.limits.min (max_erle g.limits.max_l g.limits.max_h k)
     limits-at = limits k
 
-    pub uncapped-limits-at : InOrder g.min (uncapped_max_at g k)
-    uncapped-limits-at = cond_has (InOrder g.min) (sectioned g) (λ many. limits k) (λ one. uncapped-in-order (limits k))
+    pub uncapped-limits-at : InOrder g.limits.min (uncapped_max_at g k)
+    uncapped-limits-at = cond_has (InOrder g.limits.min) (sectioned g) (λ many. limits k) (λ one. uncapped-in-order (limits k))
 
   module _ (ch k : ℕ) (h : ch < g.num_capture_channels) (l : k < 65) where
     abbrev Within : Float → List Float → Type 0
-    Within max stream = Between g.min max (get_or stream k nan)
+    Within max stream = Between g.limits.min max (get_or stream k nan)
 
     -- what `erle` answers, whether the compensated stream is asked for or not
-    shown : (asked : Bool) → Within (max_erle g.max_l g.max_h k) (erle_shown g (Subband·channel_at (subband_part s) ch) (SignalDependent·channel_at (signal_part s) ch) asked)
+    shown : (asked : Bool) → Within (max_erle g.limits.max_l g.limits.max_h k) (erle_shown g (Subband·channel_at (subband_part s) ch) (SignalDependent·channel_at (signal_part s) ch) asked)
     unfolding erle_shown erle_of
     shown asked =
         let subband = good.subband.channels ch h in
         let signal = good.signal.channels ch h in
         let compensated = asked && g.onset_detection in
-        cond_has (Within (max_erle g.max_l g.max_h k)) (sectioned g)
-        (λ many. cond_has (Within (max_erle g.max_l g.max_h k)) compensated (λ on. signal.compensated.bands k l) (λ off. signal.plain.bands k l))
-        (λ one. cond_has (Within (max_erle g.max_l g.max_h k)) compensated (λ on. (subband.onset k l).compensated) (λ off. (subband.streams k l).plain))
+        cond_has (Within (max_erle g.limits.max_l g.limits.max_h k)) (sectioned g)
+        (λ many. cond_has (Within (max_erle g.limits.max_l g.limits.max_h k)) compensated (λ on. signal.compensated.bands k l) (λ off. signal.plain.bands k l))
+        (λ one. cond_has (Within (max_erle g.limits.max_l g.limits.max_h k)) compensated (λ on. (subband.onset k l).compensated) (λ off. (subband.streams k l).plain))
 
-    pub plain-within : Within (max_erle g.max_l g.max_h k) (streams_of s ch).plain
+    pub plain-within : Within (max_erle g.limits.max_l g.limits.max_h k) (streams_of s ch).plain
     unfolding streams_shown
     plain-within = shown false
 
-    pub compensated-within : Within (max_erle g.max_l g.max_h k) (streams_of s ch).compensated
+    pub compensated-within : Within (max_erle g.limits.max_l g.limits.max_h k) (streams_of s ch).compensated
     unfolding streams_shown
     compensated-within = shown true
 
@@ -65,12 +65,12 @@ module _ (s : ErleEstimator) (good : Good s) where
       where
         either :
             (many : Bool)
-            → Within (cond many (max_erle g.max_l g.max_h k) greatest_erle)
+            → Within (cond many (max_erle g.limits.max_l g.limits.max_h k) greatest_erle)
             (cond many (SignalDependent·channel_at (signal_part s) ch).erle (Subband·channel_at (subband_part s) ch).erle_unbounded)
         either true = (good.signal.channels ch h).plain.bands k l
         either false = ((good.subband.channels ch h).streams k l).uncapped
 
-    onset-is : get_or (streams_of s ch).onsets k nan ≡ g.min
+    onset-is : get_or (streams_of s ch).onsets k nan ≡ g.limits.min
     unfolding streams_shown
     onset-is = (good.subband.channels ch h).onset_min k l
 

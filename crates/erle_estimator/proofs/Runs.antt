@@ -32,13 +32,13 @@ answer-not-20 s (reset delay_change) ok e = let never : ◌≡◌ {A = ℕ} 0 20
 
 -- what a run from an accepted start keeps
 run-good :
-    (startup : ℕ) (g : ErleSettings) → InBinary32 g.min g.max_l g.max_h → settings_refusal g ≡ accepted
+    (startup : ℕ) (g : ErleSettings) → InBinary32 g.limits.min g.limits.max_l g.limits.max_h → settings_refusal g ≡ accepted
     → (calls : List Call) → Good (run (started_with startup 0 g) calls)
 unfolding run
 run-good startup g held e calls = run-keeps Good (λ t c. (answer t c).state) answer-good calls _ (started-good startup 0 g held e)
 
 pub never-bad-state :
-    (startup : ℕ) (g : ErleSettings) → InBinary32 g.min g.max_l g.max_h → settings_refusal g ≡ accepted
+    (startup : ℕ) (g : ErleSettings) → InBinary32 g.limits.min g.limits.max_l g.limits.max_h → settings_refusal g ≡ accepted
     → NeverBadState (started_with startup 0 g)
 unfolding NeverBadState state_refusal
 never-bad-state startup g held e calls =
@@ -63,7 +63,7 @@ run-settings g =
     run-keeps (λ (s : ErleEstimator). s.settings ≡ g) (λ s c. (answer s c).state) (λ s c same. answer-settings s c ∙ same)
 
 pub figures-in-range :
-    (startup : ℕ) (g : ErleSettings) → InBinary32 g.min g.max_l g.max_h → settings_refusal g ≡ accepted
+    (startup : ℕ) (g : ErleSettings) → InBinary32 g.limits.min g.limits.max_l g.limits.max_h → settings_refusal g ≡ accepted
     → FiguresInRange g (started_with startup 0 g)
 unfolding FiguresInRange started_with
 figures-in-range startup g held e calls =

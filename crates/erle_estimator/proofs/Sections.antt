@@ -20,7 +20,7 @@ use Rattle.erle_estimator.specs.Sections.{BySections, SectionsStay, UpdateBySect
 module _ (s : ErleEstimator) (p : Powers) {active other : ℕ → List ℕ} where
   -- with one section none is looked at, otherwise those of the state's channels
   updated-alone :
-      (1 < s.settings.num_sections → (ch : ℕ) → ch < s.settings.num_capture_channels → active ch ≡ other ch)
+      (1 < s.settings.layout.num_sections → (ch : ℕ) → ch < s.settings.num_capture_channels → active ch ≡ other ch)
       → updated s p active ≡ updated s p other
   unfolding updated
   updated-alone same =
@@ -33,7 +33,7 @@ module _ (s : ErleEstimator) (p : Powers) {active other : ℕ → List ℕ} wher
 
 pub sections-alone :
     (s : ErleEstimator) (p : Powers) {active other : ℕ → List ℕ}
-    → (1 < s.settings.num_sections → (ch : ℕ) → ch < s.settings.num_capture_channels → active ch ≡ other ch)
+    → (1 < s.settings.layout.num_sections → (ch : ℕ) → ch < s.settings.num_capture_channels → active ch ≡ other ch)
     → after_block s p active ≡ after_block s p other
 unfolding after_block counted
 sections-alone s p same =

@@ -34,7 +34,7 @@ state_refusal s = unless (state_ok s) bad_state accepted
 -- the first of 20, 21, 2, 4, 9, 5 and 6, or 0
 unfoldable pub update_refusal : ErleEstimator → Update → ℕ
 update_refusal s u =
-    refusal_by (state_ok s) (signal_settings s.settings) u (lent_lengths_ok s.settings.filter_length_blocks u) (value_refusal (lent_values u))
+    refusal_by (state_ok s) (signal_settings s.settings) u (lent_lengths_ok s.settings.layout.filter_length_blocks u) (value_refusal (lent_values u))
 
 -- ---- start, reset, update
 
@@ -55,14 +55,10 @@ started_with startup blocks g =
 unfoldable pub refused_settings : ErleSettings
 refused_settings =
     record {
-      min = zero32;
-      max_l = zero32;
-      max_h = zero32;
+      limits = record { min = zero32; max_l = zero32; max_h = zero32 };
       onset_detection = false;
       num_capture_channels = 0;
-      num_sections = 0;
-      filter_length_blocks = 0;
-      delay_headroom_samples = 0;
+      layout = record { num_sections = 0; filter_length_blocks = 0; delay_headroom_samples = 0 };
       clamp_quality_estimate_to_zero = false;
       clamp_quality_estimate_to_one = false;
     }
@@ -124,7 +120,7 @@ update_answer s u =
 
 -- Whether the signal-dependent part is in use.
 unfoldable pub sectioned : ErleSettings → Bool
-sectioned g = ltb 1 g.num_sections
+sectioned g = ltb 1 g.layout.num_sections
 
 -- What `erle` answers for a channel, of its two records: with two or more sections a signal-dependent stream, else a subband one; the
 -- compensated one where it is asked for and onset detection is on, else the plain one.

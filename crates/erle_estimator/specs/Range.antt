@@ -14,15 +14,15 @@ use Rattle.erle_estimator.specs.Runs.{Call, run}
 
 -- what the uncapped answer is not above: 100,000, and with two or more sections the band's maximum
 abbrev pub uncapped_max_at : ErleSettings → ℕ → Float
-uncapped_max_at g k = cond (sectioned g) (max_erle g.max_l g.max_h k) greatest_erle
+uncapped_max_at g k = cond (sectioned g) (max_erle g.limits.max_l g.limits.max_h k) greatest_erle
 
 -- what a channel shows of band k: what `erle` answers, without and with the compensated stream asked for, what `erle_unbounded` answers, and
 -- the onset value, which is the minimum
 pub record InRange (g : ErleSettings) (shown : ErleStreams) (k : ℕ) : Type 0 where
-  pub plain : number_from g.min (max_erle g.max_l g.max_h k) (get_or shown.plain k nan) ≡ true
-  pub compensated : number_from g.min (max_erle g.max_l g.max_h k) (get_or shown.compensated k nan) ≡ true
-  pub uncapped : number_from g.min (uncapped_max_at g k) (get_or shown.unbounded k nan) ≡ true
-  pub onset : get_or shown.onsets k nan ≡ g.min
+  pub plain : number_from g.limits.min (max_erle g.limits.max_l g.limits.max_h k) (get_or shown.plain k nan) ≡ true
+  pub compensated : number_from g.limits.min (max_erle g.limits.max_l g.limits.max_h k) (get_or shown.compensated k nan) ≡ true
+  pub uncapped : number_from g.limits.min (uncapped_max_at g k) (get_or shown.unbounded k nan) ≡ true
+  pub onset : get_or shown.onsets k nan ≡ g.limits.min
 
 -- what a state shows of every channel and band; and the fullband part, whose figures and qualities the fullband readers answer: figures, decibels,
 -- extremes and qualities are finite, qualities from 0 to 1 where both clamps are on, and no log2 figure is below log2 of (the minimum plus 0.001)
@@ -42,7 +42,7 @@ pub record AllInRange (g : ErleSettings) (s : ErleEstimator) : Type 0 where
 -- "in every channel and band" -> bands, each ch below the channel count and k below 65
 -- "`erle` without and with the compensated stream asked for" -> InRange's plain and compensated, by erle_shown
 -- "and `erle_unbounded`" -> InRange's uncapped, by streams_shown
--- "a number, not below the minimum nor above" -> number_from g.min
+-- "a number, not below the minimum nor above" -> number_from g.limits.min
 -- "the band's maximum" -> max_erle
 -- "100,000 (with sections: its band's maximum)" -> uncapped_max_at
 -- "One claim, one statement, sections or not" -> streams_of chooses by the section count, as `erle` and `erle_unbounded` do

@@ -26,9 +26,9 @@ pub record PointsFit (s : ErleEstimator) (channels : ℕ) : Type 0 where
 
 -- active sections: below the section count, which a record can hold
 pub record SectionsFit (s : ErleEstimator) (channels : ℕ) (active : ℕ → List ℕ) : Type 0 where
-  pub some : 1 ≤ s.settings.num_sections
-  pub few : s.settings.num_sections ≤ 8
-  pub below : (ch : ℕ) → ch < channels → list_all (λ n. ltb n s.settings.num_sections) (active ch) ≡ true
+  pub some : 1 ≤ s.settings.layout.num_sections
+  pub few : s.settings.layout.num_sections ≤ 8
+  pub below : (ch : ℕ) → ch < channels → list_all (λ n. ltb n s.settings.layout.num_sections) (active ch) ≡ true
 
 -- the subband and the fullband part one block later
 unfoldable pub moved_by_powers : ErleEstimator → Powers → ErleEstimator

@@ -5,25 +5,25 @@ mod moves;
 mod streams;
 
 ghost use Rattle.std.specs.Prelude.{◌≡◌, ◌<◌, [], get_or, IfOk};
-ghost use Rattle.aec3_common.specs.Answers.{numbered, told};
+ghost use Rattle.aec3_common.specs.Answers.{number_of, numbered, told};
 ghost use Rattle.erle_estimator.specs.Parts.{fullband_part};
-ghost use Rattle.erle_estimator.specs.Erle.{state_ok, refused_settings, started_with, start_answer, after_reset, reset_answer, after_block, update_answer, log2_answer, decibel_answer, quality_answer};
+ghost use Rattle.erle_estimator.specs.Erle.{state_ok, state_refusal, refused_settings, started_with, start_answer, after_reset, reset_answer, after_block, update_answer, log2_answer, decibel_answer, quality_answer};
 ghost use Rattle.erle_estimator.specs.Range.{FiguresInRange};
 ghost use Rattle.erle_estimator.specs.Steps.{BlockFits, PointsFit, SectionsFit, moved_by_powers, moved_by_sections};
 ghost use Rattle.erle_estimator.specs.Runs.{NeverBadState};
-ghost use Rattle.signal_dependent_erle_estimator.specs.SignalDependent.{update_lent, powers_lent};
+ghost use Rattle.signal_dependent_erle_estimator.specs.SignalDependent.{update_of, powers_lent};
 
 use aec3_common::counts::one_more;
+use aec3_common::entries::change;
 pub use aec3_common::settings::ErleSettings;
 pub use aec3_common::streams::erle;
-use aec3_common::{Answer, Block, Refusal};
+use aec3_common::{Answer, Block, ErleLimits, FilterLayout, Refusal};
 use correction_factors::subband_sums;
 pub use fullband_erle_estimator::OptionalNumber;
 use fullband_erle_estimator::{FullBandChannel, FullBandErleEstimator, FullBandSettings, is_loud};
-use moves::move_subband;
 pub use moves::{fullband_channel, subband_channel};
 pub use section_echoes::{FilterResponses, RenderBuffer, RenderRing};
-use signal_dependent_erle_estimator::judge::judge_beside;
+pub use signal_dependent_erle_estimator::Inputs;
 use signal_dependent_erle_estimator::{
     ChannelBlock, SignalDependentChannel, SignalDependentSettings, active_sections, boundaries_of,
     settings_pass,
@@ -32,7 +32,8 @@ pub use streams::{ErleStreams, erle_streams};
 use subband_erle_estimator::{SubbandChannel, SubbandSettings};
 
 // The settings once, the startup count, the blocks counted since the latest reset that came with a change of delay, and four records of
-// each part.
+// each part. A table for each part, not one of channels with three records each: a part alone has such a table, and what is said of it is said
+// here of the table as it stands.
 #[derive(Clone, Copy, Debug)]
 pub struct ErleEstimator {
     pub settings: ErleSettings,
@@ -44,26 +45,33 @@ pub struct ErleEstimator {
     pub fullband: [FullBandChannel; 4],
 }
 
-// Settings without a channel, which 20 turns away.
+// Settings without a channel, which 20 turns away: they stand for settings that are yet to come. They are not `Default`, since no start would
+// accept them.
 #[tactic(auto, unfolding(crate::specs::Erle::refused_settings, aec3_common::specs::Binary32::zero32))]
 pub fn refused_settings() -> ErleSettings
     ensures { result ≡ refused_settings }
 {
     ErleSettings {
-        min: 0.0,
-        max_l: 0.0,
-        max_h: 0.0,
+        limits: ErleLimits {
+            min: 0.0,
+            max_l: 0.0,
+            max_h: 0.0,
+        },
         onset_detection: false,
         num_capture_channels: 0,
-        num_sections: 0,
-        filter_length_blocks: 0,
-        delay_headroom_samples: 0,
+        layout: FilterLayout {
+            num_sections: 0,
+            filter_length_blocks: 0,
+            delay_headroom_samples: 0,
+        },
         clamp_quality_estimate_to_zero: false,
         clamp_quality_estimate_to_one: false,
     }
 }
 
-// Every part as a start leaves it, with a block count. It judges nothing.
+// Every part as a start leaves it, with a block count. It judges nothing. It stays out of line: written out in a caller, its stores part by part would
+// break each later copy of the state there into as many pieces, and updates would take up to a fifth longer.
+#[inline(never)]
 #[tactic(auto, unfolding(crate::specs::Erle::started_with, subband_erle_estimator::specs::Subband::started, signal_dependent_erle_estimator::specs::SignalDependent::started, fullband_erle_estimator::specs::FullBand::started, aec3_common::specs::Lists::tab))]
 pub fn started_with(startup: u32, blocks: u32, settings: ErleSettings) -> ErleEstimator
     ensures { result ≡ started_with startup blocks settings }
@@ -74,8 +82,8 @@ pub fn started_with(startup: u32, blocks: u32, settings: ErleSettings) -> ErleEs
         startup_phase_length_blocks: startup,
         blocks_since_reset: blocks,
         section_boundaries_blocks: boundaries_of(settings.into()),
-        subband: [SubbandChannel::new(settings.min); 4],
-        signal_dependent: [SignalDependentChannel::new(settings.min); 4],
+        subband: [SubbandChannel::new(settings.limits.min); 4],
+        signal_dependent: [SignalDependentChannel::new(settings.limits.min); 4],
         fullband: [FullBandChannel::new(min_erle_log2); 4],
     }
 }
@@ -105,7 +113,7 @@ impl ErleEstimator {
             return false;
         }
         let count = settings.num_capture_channels;
-        let sections = settings.num_sections as u32;
+        let sections = settings.layout.num_sections as u32;
         let subband = self.subband.iter().take(count).all(|channel| channel.ok());
         let signal_dependent = self
             .signal_dependent
@@ -114,6 +122,18 @@ impl ErleEstimator {
             .all(|channel| channel.ok(sections));
         let fullband = self.fullband.iter().take(count).all(|channel| channel.ok());
         subband & signal_dependent & fullband
+    }
+
+    // Number 20.
+    #[tactic(auto, unfolding(crate::specs::Erle::state_refusal))]
+    fn judge(&self) -> Result<(), Refusal>
+        ensures { number_of result ≡ state_refusal self.now }
+    {
+        if self.ok() {
+            Ok(())
+        } else {
+            Err(Refusal::BadState)
+        }
     }
 
     // Every part as after a start; the count is cleared only if the delay changed. It judges nothing.
@@ -130,21 +150,17 @@ impl ErleEstimator {
     }
 
     // The same, and 20 is turned away.
-    #[tactic(auto, unfolding(crate::specs::Erle::reset_answer, crate::specs::Erle::state_refusal))]
+    #[tactic(auto, unfolding(crate::specs::Erle::reset_answer))]
     pub fn reset(self, delay_change: bool) -> Answer<ErleEstimator>
         ensures { told result ≡ reset_answer self delay_change }
     {
-        if self.ok() {
-            Answer {
-                state: self.restarted(delay_change),
-                outcome: Ok(()),
-            }
+        let outcome = self.judge();
+        let state = if outcome.is_ok() {
+            self.restarted(delay_change)
         } else {
-            Answer {
-                state: self,
-                outcome: Err(Refusal::BadState),
-            }
-        }
+            self
+        };
+        Answer { state, outcome }
     }
 
     // The subband and the fullband records of every channel, one block later.
@@ -156,21 +172,14 @@ impl ErleEstimator {
         let subband_part = SubbandSettings::from(self.settings);
         let min_erle_log2 = FullBandSettings::from(self.settings).min_erle_log2();
         let loud = is_loud(block);
-        // By an index, not by `change`: two tables change beside one another, and each step asks for room in its record.
+        // By an index: each subband record is changed where it stands, and `change` would copy it out and back, 2 KB each way.
         for ch in 0..block.num_capture_channels {
             let converged = block.converged_filters[ch];
             let y2 = block.own_y2(ch);
             let e2 = block.own_e2(ch);
-            move_subband(
-                &mut self.subband[ch],
-                subband_part,
-                converged,
-                block.x2,
-                y2,
-                e2,
-            );
+            self.subband[ch].step_in_place(subband_part, converged, block.x2, y2, e2);
             let c = self.fullband[ch];
-            self.fullband[ch] = fullband_channel(c, min_erle_log2, loud & converged, y2, e2);
+            self.fullband[ch] = c.after_block(min_erle_log2, loud & converged, y2, e2);
         }
     }
 
@@ -182,18 +191,22 @@ impl ErleEstimator {
     {
         let signal_part = SignalDependentSettings::from(self.settings);
         let x2_subbands = subband_sums(block.x2);
-        for ch in 0..block.num_capture_channels {
-            let subband = self.subband[ch];
-            let c = self.signal_dependent[ch];
-            let own = ChannelBlock {
-                converged: block.converged_filters[ch],
-                y2: block.own_y2(ch),
-                e2: block.own_e2(ch),
-                average: &subband.erle,
-                average_compensated: &subband.erle_onset_compensated,
-            };
-            self.signal_dependent[ch] = c.update(signal_part, &active[ch], &x2_subbands, &own);
-        }
+        let subband = &self.subband;
+        change(
+            &mut self.signal_dependent,
+            0,
+            block.num_capture_channels,
+            |ch, c| {
+                let streams = &subband[ch];
+                let own = ChannelBlock::new(
+                    block,
+                    ch,
+                    &streams.erle,
+                    &streams.erle_onset_compensated,
+                );
+                c.update(signal_part, &active[ch], &x2_subbands, &own)
+            },
+        );
     }
 
     // The inner update: a block that was judged, by the active sections of each channel. It counts one block; below the startup count nothing else
@@ -201,14 +214,14 @@ impl ErleEstimator {
     pub fn advance(&mut self, active: &[[u32; 65]; 4], block: &Block)
         requires fits { BlockFits self.old block.now.num_capture_channels (powers_lent block.now) }
         requires held { PointsFit self.old block.now.num_capture_channels }
-        requires sections { 1 < self.old.settings.num_sections → SectionsFit self.old block.now.num_capture_channels (λ ch. get_or active.now ch []) }
+        requires sections { 1 < self.old.settings.layout.num_sections → SectionsFit self.old block.now.num_capture_channels (λ ch. get_or active.now ch []) }
         ensures { self.new ≡ after_block self.old (powers_lent block.now) (λ ch. get_or active.now ch []) }
     {
         let blocks = one_more(self.blocks_since_reset);
         self.blocks_since_reset = blocks;
         if self.startup_phase_length_blocks <= blocks {
             self.move_by_powers(block);
-            if self.settings.num_sections > 1 {
+            if self.settings.layout.num_sections > 1 {
                 self.move_by_sections(active, block);
             }
         }
@@ -216,33 +229,20 @@ impl ErleEstimator {
 
     // One block. 20, 21, 2, 4, 9, 5 and 6 are turned away, in startup too; a block that is turned away is not counted. The active sections
     // are found, and then the inner update goes by them.
-    pub fn update(
-        mut self,
-        render: &RenderBuffer,
-        responses: &FilterResponses,
-        block: &Block,
-    ) -> Answer<ErleEstimator>
-        ensures { told result ≡ update_answer self (update_lent render.now responses.now block.now) }
+    pub fn update(mut self, inputs: &Inputs) -> Answer<ErleEstimator>
+        ensures { told result ≡ update_answer self (update_of inputs.now) }
     {
         let signal_part = SignalDependentSettings::from(self.settings);
-        // Besides, nothing is lent: no length is asked, and no value turned away.
-        let outcome = judge_beside(
-            self.ok(),
-            signal_part,
-            render,
-            responses,
-            block,
-            true,
-            Ok(()),
-        );
+        // Besides, nothing is lent that could be turned away.
+        let outcome = inputs.judge_beside(self.ok(), signal_part, Ok(()));
         if outcome.is_ok() {
             let active = active_sections(
                 signal_part,
                 &self.section_boundaries_blocks,
-                render,
-                responses,
+                &inputs.render,
+                &inputs.responses,
             );
-            self.advance(&active, block);
+            self.advance(&active, &inputs.block);
         }
         Answer {
             state: self,
@@ -266,11 +266,8 @@ impl ErleEstimator {
     pub fn fullband_erle_log2(self) -> Result<f32, Refusal>
         ensures { numbered result ≡ log2_answer self }
     {
-        if self.ok() {
-            self.fullband_part().fullband_erle_log2()
-        } else {
-            Err(Refusal::BadState)
-        }
+        self.judge()?;
+        self.fullband_part().fullband_erle_log2()
     }
 
     // The same in decibels.
@@ -278,11 +275,8 @@ impl ErleEstimator {
     pub fn fullband_erle_db(self) -> Result<f32, Refusal>
         ensures { numbered result ≡ decibel_answer self }
     {
-        if self.ok() {
-            self.fullband_part().fullband_erle_db()
-        } else {
-            Err(Refusal::BadState)
-        }
+        self.judge()?;
+        self.fullband_part().fullband_erle_db()
     }
 
     // The quality of a channel's linear filter. 20 is turned away.
@@ -290,10 +284,7 @@ impl ErleEstimator {
     pub fn linear_quality_estimate(self, ch: usize) -> Result<OptionalNumber, Refusal>
         ensures { numbered result ≡ quality_answer self ch }
     {
-        if self.ok() {
-            self.fullband_part().linear_quality_estimate(ch)
-        } else {
-            Err(Refusal::BadState)
-        }
+        self.judge()?;
+        self.fullband_part().linear_quality_estimate(ch)
     }
 }

@@ -1,4 +1,5 @@
-// What an accepted update does to the records of one channel.
+// What an accepted update does to the records of one channel: the parts' own methods, for callers who have a record alone. A channel's part is handed
+// on as a slice, so its flag and powers are parameters.
 ghost use Rattle.std.specs.Prelude.{◌≡◌, cond, ◌≤◌, length};
 ghost use Rattle.aec3_common.specs.Spectra.{sum};
 ghost use Rattle.subband_erle_estimator.specs.Channel.{Block, channel_after as Subband·channel_after};
@@ -7,28 +8,7 @@ ghost use Rattle.fullband_channel.specs.Channel.{with_point, one_block_less};
 use fullband_erle_estimator::FullBandChannel;
 use subband_erle_estimator::{SubbandChannel, SubbandSettings};
 
-// A converged channel learns and decays, another one only decays. A channel's flag and powers are parameters here and below: the parts' own updates
-// take them so, and a struct would be made for each call and taken apart at once.
-pub fn move_subband(
-    c: &mut SubbandChannel,
-    settings: SubbandSettings,
-    converged: bool,
-    x2: &[f32],
-    y2: &[f32],
-    e2: &[f32],
-)
-    requires num_points_bound { c.old.num_points ≤ 6 }
-    requires x2_len { (length x2.now ≡ 65) × (length y2.now ≡ 65) × (length e2.now ≡ 65) }
-    ensures { c.new ≡ Subband·channel_after settings (record { converged = converged; render = x2.now; capture = y2.now; residual = e2.now }) c.old }
-{
-    if converged {
-        c.update_in_place(settings, x2, y2, e2);
-    } else {
-        c.decay_in_place(settings);
-    }
-}
-
-// The same of a record by value.
+// A converged channel learns and decays, another one only decays.
 pub fn subband_channel(
     mut c: SubbandChannel,
     settings: SubbandSettings,
@@ -41,7 +21,7 @@ pub fn subband_channel(
     requires x2_len { (length x2.now ≡ 65) × (length y2.now ≡ 65) × (length e2.now ≡ 65) }
     ensures { result ≡ Subband·channel_after settings (record { converged = converged; render = x2.now; capture = y2.now; residual = e2.now }) c }
 {
-    move_subband(&mut c, settings, converged, x2, y2, e2);
+    c.step_in_place(settings, converged, x2, y2, e2);
     c
 }
 
@@ -56,9 +36,5 @@ pub fn fullband_channel(
     requires { (c.instantaneous_erle.num_points ≤ 5) × (length y2.now ≡ 65) × (length e2.now ≡ 65) }
     ensures { result ≡ cond heard (one_block_less (with_point min_erle_log2 (sum y2.now) (sum e2.now) c)) (one_block_less c) }
 {
-    if heard {
-        c.update(min_erle_log2, y2, e2)
-    } else {
-        c.decay()
-    }
+    c.after_block(min_erle_log2, heard, y2, e2)
 }

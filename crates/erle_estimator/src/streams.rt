@@ -17,7 +17,8 @@ pub struct ErleStreams {
     pub onsets: [f32; 65],
 }
 
-// The compensated stream as `erle` answers it, of the two that a record holds.
+// The compensated stream as `erle` answers it, of the two that a record holds. Not `erle` itself: that gives back one of two lent slices, as is asked for,
+// and here the records are handed over by value, so that a slice of theirs cannot be given back.
 #[tactic(auto, unfolding(aec3_common::specs::Streams::erle_of))]
 fn compensated_shown(plain: [f32; 65], held: [f32; 65], onset_detection: bool) -> [f32; 65]
     ensures { result ≡ erle_of plain held true onset_detection }
@@ -35,7 +36,7 @@ pub fn erle_streams(
     ensures { result ≡ streams_shown settings subband signal_dependent }
 {
     let onsets = subband.erle_onsets;
-    if settings.num_sections > 1 {
+    if settings.layout.num_sections > 1 {
         let plain = signal_dependent.erle;
         let held = signal_dependent.erle_onset_compensated;
         ErleStreams {

@@ -2,46 +2,75 @@
 // channel, and a line of the fullband figures. No function asks anything of its caller.
 #![tactic(auto)]
 
-use channel_lines::FullReadings;
-use erle_estimator::{ErleEstimator, ErleStreams, erle_streams};
-use script::Figures;
-use std::fmt;
-
-// The streams of a channel.
-#[derive(Clone, Copy)]
-struct Streams {
-    index: usize,
-    streams: ErleStreams,
-}
-
-impl fmt::Display for Streams {
-    fn fmt<W: fmt::Write>(&self, f: &mut fmt::Formatter<W>) -> fmt::Result {
-        let c = self.index;
-        writeln!(f, "plain {c}{}", Figures(&self.streams.plain))?;
-        writeln!(f, "comp {c}{}", Figures(&self.streams.compensated))?;
-        writeln!(f, "unb {c}{}", Figures(&self.streams.unbounded))?;
-        writeln!(f, "onsets {c}{}", Figures(&self.streams.onsets))
-    }
-}
+use aec3_common::settings::MAX_CAPTURE_CHANNELS;
+use channel_lines::{ChannelStreams, FullReadings};
+use erle_estimator::{ErleEstimator, erle_streams};
+use std::{array, fmt};
 
 // The figures of an estimator that stands; records that its state does not use are not shown.
-#[derive(Clone, Copy)]
+#[derive(Clone, Copy, Debug)]
 pub struct ErleFigures<'a>(pub &'a ErleEstimator);
 
 impl fmt::Display for ErleFigures<'_> {
     fn fmt<W: fmt::Write>(&self, f: &mut fmt::Formatter<W>) -> fmt::Result {
         let erle = self.0;
         let num_channels = erle.settings.num_capture_channels;
-        for c in 0..num_channels.min(4) {
-            let streams = erle_streams(erle.settings, erle.subband[c], erle.signal_dependent[c]);
-            write!(f, "{}", Streams { index: c, streams })?;
+        let channels = erle.subband.iter().zip(erle.signal_dependent.iter());
+        for (index, (subband, signal_dependent)) in channels.take(num_channels).enumerate() {
+            let shown = erle_streams(erle.settings, *subband, *signal_dependent);
+            let streams = ChannelStreams {
+                index,
+                plain: &shown.plain,
+                compensated: &shown.compensated,
+                unbounded: &shown.unbounded,
+                onsets: &shown.onsets,
+            };
+            write!(f, "{streams}")?;
         }
+        let qualities: [_; MAX_CAPTURE_CHANNELS] = array::from_fn(|c| erle.linear_quality_estimate(
+            c,
+        ));
         let readings = FullReadings {
-            num_channels,
             log2: erle.fullband_erle_log2(),
             db: erle.fullband_erle_db(),
-            qualities: [0, 1, 2, 3].map(|c| erle.linear_quality_estimate(c)),
+            qualities: &qualities[..num_channels.min(MAX_CAPTURE_CHANNELS)],
         };
         write!(f, "{readings}")
+    }
+}
+
+#[cfg(test)]
+mod tests {
+    use super::*;
+    use aec3_common::{ErleLimits, FilterLayout};
+    use erle_estimator::ErleSettings;
+    use std::test::Fail;
+
+    // After a start with limits of 1, every figure is 1, the fullband figure is the log2 of a little more, and no quality is known.
+    #[test]
+    fn shows_a_start(rt: HostRuntime) -> Result<(), Fail> {
+        let settings = ErleSettings {
+            limits: ErleLimits {
+                min: 1.0,
+                max_l: 1.0,
+                max_h: 1.0,
+            },
+            onset_detection: true,
+            num_capture_channels: 2,
+            layout: FilterLayout {
+                num_sections: 1,
+                filter_length_blocks: 13,
+                delay_headroom_samples: 0,
+            },
+            clamp_quality_estimate_to_zero: true,
+            clamp_quality_estimate_to_one: true,
+        };
+        let erle = ErleEstimator::new(0, settings)?;
+        let text = format!(in rt.alloc(); "{}", ErleFigures(&erle))?;
+        assert!(rt; text.starts_with("plain 0 3F800000 3F800000 "));
+        assert!(rt; text.contains(" 3F800000\nonsets 1 3F800000 "));
+        assert!(rt; text.ends_with("\nfull 3D6ED000 3E331C00 absent absent\n"));
+        assert_eq!(rt; text.lines().count(), 9);
+        Ok(())
     }
 }

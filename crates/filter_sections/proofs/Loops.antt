@@ -1,5 +1,5 @@
 -- What the loops over sections have done at each turn.
-use mathlib.Core.Path.{◌≡◌, refl, sym, ap, ◌∙◌}
+use mathlib.Core.Path.{◌≡◌, refl, sym, ap, ◌∙◌, subst}
 use mathlib.Core.Bool.{Bool, true, false, cond}
 use mathlib.Core.List.{List, [], ◌∷◌}
 use Prim.Native.Nat.{ℕ, zero, suc, ◌+◌, ◌-◌, ◌*◌, ◌/◌, ◌%◌, ◌≤◌, ◌<◌}
@@ -85,6 +85,13 @@ module _
           rest = d.rest ∙ doubling-ends size (n - taken) left (omega (arith, d.some)) stop;
         }
 
+    -- the last section takes none
+    pub doubling-last : n - 1 ≤ taken → Doubled n blocks places sizes (n - 1) left
+    doubling-last over =
+        let here : taken ≡ n - 1 = omega (arith, d.some) in
+        let one : n - taken ≡ 1 = omega (arith, d.some) in
+        subst (λ (t : ℕ). Doubled n blocks places sizes t left) here (doubling-over (rw one refl))
+
 -- ---- sizes that share evenly
 
 -- whether a section is the last, counted from the first and from where sharing began
@@ -145,31 +152,30 @@ module _ {n blocks places : ℕ} {sizes : List ℕ} {taken left : ℕ} (d : Doub
 -- ---- running sums
 
 -- so many sums stand behind the first; the last one is known and small
-pub record Summing (from n places : ℕ) (sizes r : List ℕ) (k : ℕ) : Type 0 where
-  pub to : k ≤ n
+pub record Summing (from places : ℕ) (sizes r : List ℕ) (k : ℕ) : Type 0 where
+  pub to : k ≤ length sizes
   pub stored :
-      Stored places 0 1 (n + 1) (λ j. get_or (running_sums from (take n sizes)) j 0) (padded places (from ∷ [])) r (k + 1)
-  pub last : get_or r k 0 ≡ get_or (running_sums from (take n sizes)) k 0
+      Stored places 0 1 (length sizes + 1) (λ j. get_or (running_sums from sizes) j 0) (padded places (from ∷ [])) r (k + 1)
+  pub last : get_or r k 0 ≡ get_or (running_sums from sizes) k 0
   pub small : get_or r k 0 < 4294967296 * (k + 1)
 
-pub summing-begun : (from n places : ℕ) (sizes : List ℕ) → from < 4294967296 → 0 < places → Summing from n places sizes (padded places (from ∷ [])) 0
-summing-begun from n places sizes small some =
+pub summing-begun : (from places : ℕ) (sizes : List ℕ) → from < 4294967296 → 0 < places → Summing from places sizes (padded places (from ∷ [])) 0
+summing-begun from places sizes small some =
     let first : get_or (padded places (from ∷ [])) 0 0 ≡ from = padded-at places (from ∷ []) 0 (omega arith) in
     record {
       to = omega arith;
-      stored = stored-none 0 1 (n + 1) (λ j. get_or (running_sums from (take n sizes)) j 0) (padded places (from ∷ [])) (omega arith) (length-tab places (λ j. get_or (from ∷ []) j 0));
-      last = first ∙ sym (sums_first from (take n sizes));
+      stored = stored-none 0 1 (length sizes + 1) (λ j. get_or (running_sums from sizes) j 0) (padded places (from ∷ [])) (omega arith) (length-tab places (λ j. get_or (from ∷ []) j 0));
+      last = first ∙ sym (sums_first from sizes);
       small = rw first (omega arith);
     }
 
-module _ {from n places : ℕ} {sizes r : List ℕ} {k : ℕ} (s : Summing from n places sizes r k) where
+module _ {from places : ℕ} {sizes r : List ℕ} {k : ℕ} (s : Summing from places sizes r k) where
   pub summing-more :
-      k < n → n < places → n ≤ length sizes → get_or sizes k 0 < 4294967296
-      → Summing from n places sizes (set r (k + 1) (get_or r k 0 + get_or sizes k 0)) (k + 1)
-  summing-more h fits long size =
-      let next : get_or r k 0 + get_or sizes k 0 ≡ get_or (running_sums from (take n sizes)) (k + 1) 0 =
-      rw (s.last, ← get_or-take n sizes k 0 h, add-one)
-      (sym (sums_next from (take n sizes) k (rw (length-take-le n sizes long) h))) in
+      k < length sizes → length sizes < places → get_or sizes k 0 < 4294967296
+      → Summing from places sizes (set r (k + 1) (get_or r k 0 + get_or sizes k 0)) (k + 1)
+  summing-more h fits size =
+      let next : get_or r k 0 + get_or sizes k 0 ≡ get_or (running_sums from sizes) (k + 1) 0 =
+      rw (s.last, add-one) (sym (sums_next from sizes k h)) in
       let here : get_or (set r (k + 1) (get_or r k 0 + get_or sizes k 0)) (k + 1) 0 ≡ get_or r k 0 + get_or sizes k 0 =
       get_or-set_same r (k + 1) (get_or r k 0 + get_or sizes k 0) 0 (rw s.stored.long (omega arith)) in
       record {
@@ -179,25 +185,22 @@ module _ {from n places : ℕ} {sizes r : List ℕ} {k : ℕ} (s : Summing from 
         small = rw here (omega (arith, s.small));
       }
 
-  pub summing-over : n ≤ k → n < places → n ≤ length sizes → r ≡ padded places (running_sums from (take n sizes))
-  summing-over over fits long = padded-is places sums r s.stored.long within behind
+  pub summing-over : length sizes ≤ k → length sizes < places → r ≡ padded places (running_sums from sizes)
+  summing-over over fits = padded-is places (running_sums from sizes) r s.stored.long within behind
     where
-      sums : List ℕ
-      sums = running_sums from (take n sizes)
+      count : length (running_sums from sizes) ≡ suc (length sizes)
+      count = length-sums from sizes
 
-      count : length (running_sums from (take n sizes)) ≡ suc n
-      count = length-sums from (take n sizes) ∙ ap suc (length-take-le n sizes long)
-
-      at : (j : ℕ) → j < suc n → get_or r j 0 ≡ get_or (running_sums from (take n sizes)) j 0
-      at zero h = s.stored.under 0 (omega arith) ∙ padded-at places (from ∷ []) 0 (omega arith) ∙ sym (sums_first from (take n sizes))
+      at : (j : ℕ) → j < suc (length sizes) → get_or r j 0 ≡ get_or (running_sums from sizes) j 0
+      at zero h = s.stored.under 0 (omega arith) ∙ padded-at places (from ∷ []) 0 (omega arith) ∙ sym (sums_first from sizes)
       at (suc j) h = s.stored.done (suc j) (omega arith) (omega arith)
 
-      within : (j : ℕ) → j < length (running_sums from (take n sizes)) → get_or r j 0 ≡ get_or (running_sums from (take n sizes)) j 0
+      within : (j : ℕ) → j < length (running_sums from sizes) → get_or r j 0 ≡ get_or (running_sums from sizes) j 0
       within j h = at j (rw count at h)
 
-      behind : (j : ℕ) → length (running_sums from (take n sizes)) ≤ j → get_or r j 0 ≡ 0
+      behind : (j : ℕ) → length (running_sums from sizes) ≤ j → get_or r j 0 ≡ 0
       behind j h =
-          let far : suc n ≤ j = rw count at h in
+          let far : suc (length sizes) ≤ j = rw count at h in
           s.stored.ahead j (omega (arith, s.to))
           ∙ padded-at places (from ∷ []) j (omega arith)
           ∙ get_or-eq_default (from ∷ []) 0 {n = j} (omega arith)

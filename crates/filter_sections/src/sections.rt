@@ -1,5 +1,5 @@
 // The sections of the adaptive filter: their sizes and boundaries in blocks.
-ghost use Rattle.std.specs.Prelude.{◌≡◌, cond, List, ℕ, ◌+◌, ◌-◌, ◌/◌, ◌%◌, ◌≤◌, ◌<◌, ◌^◌, length, get_or, take};
+ghost use Rattle.std.specs.Prelude.{◌≡◌, ℕ, ◌≤◌, ◌<◌, ◌^◌, length, get_or};
 ghost use Rattle.aec3_common.specs.Answers.{numbered};
 ghost use Rattle.filter_sections.specs.Sections.{takes, section_sizes, running_sums, boundaries, padded, sections_answer};
 ghost use Rattle.filter_sections.specs.Steps.{Doubled as Steps-as-Doubled};
@@ -7,6 +7,16 @@ ghost use Rattle.filter_sections.specs.Steps.{Doubled as Steps-as-Doubled};
 use aec3_common::entries::change;
 use aec3_common::settings::headroom_blocks;
 use aec3_common::{FilterLayout, Refusal};
+
+// So many blocks to be divided into so many sections, as judged settings have them: sums stay small within these bounds.
+#[derive(Clone, Copy, Debug)]
+struct Division {
+    sections: usize,
+    blocks: usize,
+    ghost some: { 0 < sections },
+    ghost few: { sections ≤ 8 },
+    ghost short: { blocks < 2 ^ 32 },
+}
 
 // The sizes so far, how many there are, and the blocks left for the sections left to share evenly. The table has a fixed size, as all memory
 // of the estimators has, so the count stands beside it.
@@ -24,45 +34,26 @@ pub fn section_boundaries(layout: FilterLayout) -> Result<[usize; 9], Refusal>
     if !layout.ok() {
         return Err(Refusal::BadSections);
     }
-    let headroom = headroom_blocks(layout.delay_headroom_samples);
-    Ok(set_sections_boundaries(layout.num_sections, layout.filter_length_blocks, headroom))
+    let filter = Division {
+        sections: layout.num_sections,
+        blocks: layout.filter_length_blocks,
+    };
+    Ok(filter.boundaries(headroom_blocks(layout.delay_headroom_samples)))
 }
 
-// The boundaries of judged settings. Sums stay small within these bounds.
-fn set_sections_boundaries(sections: usize, blocks: usize, headroom: usize) -> [usize; 9]
-    requires sections_nonzero { (0 < sections) × (sections ≤ 8) }
-    requires blocks_bound { (blocks < 2 ^ 32) × (headroom < 2 ^ 32) }
-    ensures { result ≡ padded 9 (boundaries sections blocks headroom) }
-{
-    if sections == 1 {
-        [0, blocks, 0, 0, 0, 0, 0, 0, 0]
-    } else {
-        let sizes = define_filter_section_sizes(sections, blocks.saturating_sub(headroom));
-        running_sums(headroom, sections, sizes)
-    }
-}
-
-// from, and after it the running sums of the first sizes.
-fn running_sums(from: usize, sections: usize, sizes: [usize; 8]) -> [usize; 9]
-    requires from_bound { (from < 2 ^ 32) × (sections ≤ 8) }
-    requires by_index { (k : ℕ) → get_or sizes k 0 < 2 ^ 32 }
-    ensures { result ≡ padded 9 (running_sums from (take sections sizes)) }
+// from, and after it the running sums of the sizes.
+fn running_sums(from: usize, sizes: &[usize]) -> [usize; 9]
+    requires small { from < 2 ^ 32 }
+    requires few { length sizes.now ≤ 8 }
+    requires by_index { (k : ℕ) → get_or sizes.now k 0 < 2 ^ 32 }
+    ensures { result ≡ padded 9 (running_sums from sizes.now) }
 {
     let mut r = [from, 0, 0, 0, 0, 0, 0, 0, 0];
     // Each sum is made of the one before it in the same table: a chain over the sizes would need that one beside it, and be no plainer.
-    for k in 0..sections {
-        r[k + 1] = r[k] + sizes[k];
+    for (k, &size) in sizes.iter().enumerate() {
+        r[k + 1] = r[k] + size;
     }
     r
-}
-
-// The sizes of the sections, zeros behind them.
-fn define_filter_section_sizes(sections: usize, blocks: usize) -> [usize; 8]
-    requires sections_nonzero { (0 < sections) × (sections ≤ 8) }
-    requires blocks_bound { blocks < 2 ^ 32 }
-    ensures { result ≡ padded 8 (section_sizes sections blocks) }
-{
-    share_evenly(double_sizes(sections, blocks), sections, blocks)
 }
 
 // Whether a section takes size blocks, of the sections and blocks left.
@@ -73,51 +64,67 @@ fn section_takes(size: usize, sections: usize, blocks: usize) -> bool
     (1 < sections) & (size * sections < blocks)
 }
 
-// Sections that take sizes doubling from 2.
-fn double_sizes(sections: usize, blocks: usize) -> Doubled
-    requires sections_nonzero { (0 < sections) × (sections ≤ 8) }
-    requires blocks_bound { blocks < 2 ^ 32 }
-    ensures { Steps-as-Doubled sections blocks 8 result.sizes result.taken result.left }
-{
-    let mut sizes = [0usize; 8];
-    let mut taken = 0;
-    let mut left = blocks;
-    let mut size = 2;
-    // How many take one is what is sought: a `for` would count to a number that is not known, and leave by `break`.
-    while section_takes(size, sections - taken, left) {
-        sizes[taken] = size;
-        left -= size;
-        size *= 2;
-        taken += 1;
+impl Division {
+    // One section has them all. More begin behind the headroom.
+    fn boundaries(self, headroom: usize) -> [usize; 9]
+        requires { headroom < 2 ^ 32 }
+        ensures { result ≡ padded 9 (boundaries self.sections self.blocks headroom) }
+    {
+        if self.sections == 1 {
+            return [0, self.blocks, 0, 0, 0, 0, 0, 0, 0];
+        }
+        let behind = Division {
+            sections: self.sections,
+            blocks: self.blocks.saturating_sub(headroom),
+        };
+        running_sums(headroom, &behind.sizes()[..self.sections])
     }
-    Doubled { sizes, taken, left }
-}
 
-// The last section takes the remainder too.
-fn even_share(blocks: usize, sections: usize, last: bool) -> usize
-    requires { (0 < sections) × (blocks < 2 ^ 32) }
-    ensures { result ≡ blocks / sections + cond last (blocks % sections) 0 }
-{
-    if last {
-        blocks / sections + blocks % sections
-    } else {
-        blocks / sections
+    // The sizes of the sections, zeros behind them.
+    fn sizes(self) -> [usize; 8]
+        ensures { result ≡ padded 8 (section_sizes self.sections self.blocks) }
+    {
+        self.share_evenly(self.double_sizes())
     }
-}
 
-// The sections left share the blocks left.
-fn share_evenly(d: Doubled, sections: usize, blocks: usize) -> [usize; 8]
-    requires steps_doubled { Steps-as-Doubled sections blocks 8 d.sizes d.taken d.left }
-    requires sections_bound { (sections ≤ 8) × (blocks < 2 ^ 32) }
-    ensures { result ≡ padded 8 (section_sizes sections blocks) }
-{
-    let Doubled {
-        mut sizes,
-        taken,
-        left,
-    } = d;
-    change(&mut sizes, taken, sections, |k, _| {
-        even_share(left, sections - taken, k + 1 == sections)
-    });
-    sizes
+    // Sections that take sizes doubling from 2; the last one takes what is left.
+    fn double_sizes(self) -> Doubled
+        ensures { Steps-as-Doubled self.sections self.blocks 8 result.sizes result.taken result.left }
+    {
+        let mut sizes = [0usize; 8];
+        let mut left = self.blocks;
+        let mut size = 2;
+        for taken in 0..self.sections - 1 {
+            if !section_takes(size, self.sections - taken, left) {
+                return Doubled { sizes, taken, left };
+            }
+            sizes[taken] = size;
+            left -= size;
+            size *= 2;
+        }
+        let taken = self.sections - 1;
+        Doubled { sizes, taken, left }
+    }
+
+    // The sections left share the blocks left; the last takes the remainder too.
+    fn share_evenly(self, doubled: Doubled) -> [usize; 8]
+        requires { Steps-as-Doubled self.sections self.blocks 8 doubled.sizes doubled.taken doubled.left }
+        ensures { result ≡ padded 8 (section_sizes self.sections self.blocks) }
+    {
+        let Doubled {
+            mut sizes,
+            taken,
+            left,
+        } = doubled;
+        let share = left / (self.sections - taken);
+        let remainder = left % (self.sections - taken);
+        change(&mut sizes, taken, self.sections, |k, _| {
+            if k + 1 == self.sections {
+                share + remainder
+            } else {
+                share
+            }
+        });
+        sizes
+    }
 }

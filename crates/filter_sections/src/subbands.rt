@@ -5,20 +5,16 @@ ghost use Rattle.filter_sections.specs.Subbands.{subband_begin, subband_bands, b
 use aec3_common::ErleLimits;
 use std::ops::Range;
 
-// The bands at which the subbands begin, after the first.
-const LATER_BEGINS: [usize; 5] = [8, 16, 24, 32, 48];
+// The bands at which the subbands begin.
+const BEGINS: [usize; 6] = [1, 8, 16, 24, 32, 48];
 
+#[tactic(auto, unfolding(crate::specs::Subbands::subband_begin))]
 fn subband_begin(subband: usize) -> usize
     ensures { result ≡ subband_begin subband }
 {
-    match subband {
-        0 => 1,
-        1 => 8,
-        2 => 16,
-        3 => 24,
-        4 => 32,
-        5 => 48,
-        _ => 65,
+    match BEGINS.get(subband) {
+        Some(&begin) => begin,
+        None => 65,
     }
 }
 
@@ -29,12 +25,12 @@ pub fn subband_bands(subband: usize) -> Range<usize>
     subband_begin(subband)..subband_begin(subband.saturating_add(1))
 }
 
-// The subband that a band maps to.
+// The subband that a band maps to: as many later ones as begin at or below it.
 #[tactic(auto, unfolding(crate::specs::Subbands::band_to_subband))]
 pub fn band_to_subband(band: usize) -> usize
     ensures { result ≡ band_to_subband band }
 {
-    LATER_BEGINS.iter().filter(|&&begin| begin <= band).count()
+    BEGINS[1..].iter().filter(|&&begin| begin <= band).count()
 }
 
 // The greatest ERLE of a band.

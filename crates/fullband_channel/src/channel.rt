@@ -1,5 +1,5 @@
 // One channel's record: its instantaneous ERLE, its figure and its hold.
-ghost use Rattle.std.specs.Prelude.{◌≡◌, length};
+ghost use Rattle.std.specs.Prelude.{◌≡◌, cond, length};
 ghost use Rattle.aec3_common.specs.Spectra.{sum};
 ghost use Rattle.fullband_channel.specs.Instantaneous.{HasRoom};
 ghost use Rattle.fullband_channel.specs.Channel.{channel_ok, fresh_channel, with_point, one_block_less};
@@ -77,6 +77,26 @@ impl FullBandChannel {
                 instantaneous_erle: held,
                 ..self
             },
+        }
+    }
+
+    // One block. A channel that is heard, being converged in a block that is loud enough, accumulates; every hold falls. Its powers
+    // are slices, not arrays of 65: the project hands a channel's part of a lent slice on as a slice.
+    pub fn after_block(
+        self,
+        min_erle_log2: f32,
+        heard: bool,
+        y2: &[f32],
+        e2: &[f32],
+    ) -> FullBandChannel
+        requires room { HasRoom self.instantaneous_erle }
+        requires as_long { length y2.now ≡ length e2.now }
+        ensures { result ≡ cond heard (one_block_less (with_point min_erle_log2 (sum y2.now) (sum e2.now) self)) (one_block_less self) }
+    {
+        if heard {
+            self.update(min_erle_log2, y2, e2)
+        } else {
+            self.decay()
         }
     }
 

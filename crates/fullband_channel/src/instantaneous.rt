@@ -16,6 +16,8 @@ pub enum OptionalNumber {
     Number(f32),
 }
 
+// No invariant holds the points below six: a state with more is one that number 20 judges, so the type must be able to hold it. What adds a
+// point asks for room instead (`HasRoom`).
 #[derive(Clone, Copy, Debug, PartialEq)]
 pub struct ErleInstantaneous {
     pub erle_log2: OptionalNumber,

@@ -95,8 +95,8 @@ module _ (g : FullBandSettings) (s : FullBandErleEstimator) (kept : Kept g s) wh
         least = sized-finite c.bounded.least;
         quality = answers is_finite _ (cond_has (values is_finite) here (λ e. quality-finite i c.bounded _ _) (λ e. refl));
         clamped = λ zero one.
-            let to_zero : s.settings.clamp_quality_estimate_to_zero ≡ true = rw kept.settings zero in
-            let to_one : s.settings.clamp_quality_estimate_to_one ≡ true = rw kept.settings one in
+            let to_zero : s.settings.clamps.to_zero ≡ true = rw kept.settings zero in
+            let to_one : s.settings.clamps.to_one ≡ true = rw kept.settings one in
             answers (number_from zero32 one32) _ (cond_has (values (number_from zero32 one32)) here (λ e. rw (to_zero, to_one) (quality-from-0-to-1 i c.bounded)) (λ e. refl));
       }
 

@@ -42,8 +42,8 @@ above-signed (fin false m e) p = finite m e
 pub minimum-is-positive : MinimumIsPositive
 unfolding MinimumIsPositive settings_refusal of_bits
 minimum-is-positive s ok =
-    let limits = limits-passed s.min s.max_l s.max_h s.num_capture_channels ok in
-    epsilon-above (above-signed s.min (above_of_le one32 s.min tt (holds (first-of-five (le one32 s.min) _ _ _ _ limits))))
+    let limits = limits-passed s.limits.min s.limits.max_l s.limits.max_h s.num_capture_channels ok in
+    epsilon-above (above-signed s.limits.min (above_of_le one32 s.limits.min tt (holds (first-of-five (le one32 s.limits.min) _ _ _ _ limits))))
 
 -- ---- a state
 
@@ -54,11 +54,11 @@ module _ (s : FullBandErleEstimator) (ok : state_ok s ≡ true) where
 
   pub state-some : 1 ≤ s.settings.num_capture_channels
   unfolding settings_refusal
-  state-some = let g = s.settings in some-channels g.min g.max_l g.max_h g.num_capture_channels settings-passed
+  state-some = let g = s.settings in some-channels g.limits.min g.limits.max_l g.limits.max_h g.num_capture_channels settings-passed
 
   pub state-few : s.settings.num_capture_channels ≤ 4
   unfolding settings_refusal
-  state-few = let g = s.settings in few-channels g.min g.max_l g.max_h g.num_capture_channels settings-passed
+  state-few = let g = s.settings in few-channels g.limits.min g.limits.max_l g.limits.max_h g.num_capture_channels settings-passed
 
   -- each of its channels passes
   pub channel-passed :

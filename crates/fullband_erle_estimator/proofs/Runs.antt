@@ -44,16 +44,16 @@ pub record Kept (g : FullBandSettings) (s : FullBandErleEstimator) : Type 0 wher
 
 pub min-number : (g : FullBandSettings) → T (number (min_log2 g))
 unfolding min_log2
-min-number g = log2-number (add binary32 g.min epsilon)
+min-number g = log2-number (add binary32 g.limits.min epsilon)
 
 pub min-sized : (g : FullBandSettings) → FigureSized (min_log2 g)
 unfolding min_log2
-min-sized g = log2-above-figure g.min
+min-sized g = log2-above-figure g.limits.min
 
 module _ (g : FullBandSettings) (passed : settings_refusal g ≡ accepted) where
   few : g.num_capture_channels ≤ 4
   unfolding settings_refusal
-  few = few-channels g.min g.max_l g.max_h g.num_capture_channels passed
+  few = few-channels g.limits.min g.limits.max_l g.limits.max_h g.num_capture_channels passed
 
   pub started-kept : Kept g (started g)
   unfolding started

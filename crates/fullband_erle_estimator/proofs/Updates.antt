@@ -1,5 +1,5 @@
 -- An update channel by channel.
-use mathlib.Core.Path.{◌≡◌, refl, sym, ◌∙◌}
+use mathlib.Core.Path.{◌≡◌, refl, sym, ap, ◌∙◌}
 use mathlib.Core.Bool.{Bool, true, false, cond, not, ◌&&◌}
 use mathlib.Core.List.{List}
 use Prim.Native.Nat.{ℕ, ◌+◌, ◌≤◌, ◌<◌}
@@ -38,16 +38,29 @@ module _ (s : FullBandErleEstimator) (converged : List Bool) (x y e : List Float
       go true e = let off = not-true (get_or converged ch false) (list_all-at not converged false ch e h) in rw off
       go false e = and_comm (lt sum_threshold (sum x)) (get_or converged ch false)
 
-  pub heard-channel :
-      (ch : ℕ) (c : FullBandChannel) → ch < length converged → heard ch ≡ true → c ≡ channel_at s ch
-      → one_block_less (with_point (min_log2 s.settings) (sum (part y ch)) (sum (part e ch)) c) ≡ channel_of ch
-  unfolding channel_of channel_after
-  heard-channel ch c h on same = rw (same, sym (heard-is ch h) ∙ on)
+  -- what the code makes of a channel is what the update asks for
+  pub after-is :
+      (ch : ℕ) (c : FullBandChannel) → ch < length converged
+      → cond (heard ch) (one_block_less (with_point (min_log2 s.settings) (sum (part y ch)) (sum (part e ch)) c)) (one_block_less c)
+      ≡ channel_after (min_log2 s.settings) (get_or converged ch false) x (part y ch) (part e ch) c
+  unfolding channel_after
+  after-is ch c h = go (heard ch) (heard-is ch h)
+    where
+      go :
+          (on : Bool) → on ≡ get_or converged ch false && lt sum_threshold (sum x)
+          → cond on (one_block_less (with_point (min_log2 s.settings) (sum (part y ch)) (sum (part e ch)) c)) (one_block_less c)
+          ≡ one_block_less (cond (get_or converged ch false && lt sum_threshold (sum x)) (with_point (min_log2 s.settings) (sum (part y ch)) (sum (part e ch)) c) c)
+      go true on = rw (sym on)
+      go false off = rw (sym off)
 
-  pub quiet-channel :
-      (ch : ℕ) (c : FullBandChannel) → ch < length converged → heard ch ≡ false → c ≡ channel_at s ch → one_block_less c ≡ channel_of ch
-  unfolding channel_of channel_after
-  quiet-channel ch c h off same = rw (same, sym (heard-is ch h) ∙ off)
+  -- and so of the state's own
+  pub own-after :
+      (ch : ℕ) (c : FullBandChannel) → ch < length converged → c ≡ channel_at s ch
+      → cond (heard ch) (one_block_less (with_point (min_log2 s.settings) (sum (part y ch)) (sum (part e ch)) c)) (one_block_less c)
+      ≡ channel_of ch
+  unfolding channel_of
+  own-after ch c h same =
+      after-is ch c h ∙ ap (channel_after (min_log2 s.settings) (get_or converged ch false) x (part y ch) (part e ch)) same
 
   -- what the loop has done at ch
   pub record Updating (r : FullBandErleEstimator) (ch : ℕ) : Type 0 where

@@ -25,11 +25,8 @@ use Rattle.fullband_erle_estimator.specs.declared.FullBandErleEstimator.{FullBan
 abbrev pub fullband_settings : ErleSettings → FullBandSettings
 fullband_settings g =
     record {
-      min = g.min;
-      max_l = g.max_l;
-      max_h = g.max_h;
-      clamp_quality_estimate_to_zero = g.clamp_quality_estimate_to_zero;
-      clamp_quality_estimate_to_one = g.clamp_quality_estimate_to_one;
+      limits = g.limits;
+      clamps = record { to_zero = g.clamp_quality_estimate_to_zero; to_one = g.clamp_quality_estimate_to_one };
       num_capture_channels = g.num_capture_channels;
     }
 
@@ -37,7 +34,7 @@ fullband_settings g =
 
 -- the first of 1 and 2 that the settings break, or 0
 unfoldable pub settings_refusal : FullBandSettings → ℕ
-settings_refusal s = limits_and_channels_refusal s.min s.max_l s.max_h s.num_capture_channels
+settings_refusal s = limits_and_channels_refusal s.limits.min s.limits.max_l s.limits.max_h s.num_capture_channels
 
 -- number 20: the settings break neither 1 nor 2, and each of the state's channels passes; records beyond them are not judged
 unfoldable pub state_ok : FullBandErleEstimator → Bool
@@ -58,7 +55,7 @@ update_refusal s channels converged render capture residual =
 
 -- log2 of (the minimum plus 0.001), below which no figure moves
 unfoldable pub min_log2 : FullBandSettings → Float
-min_log2 s = log2_above s.min
+min_log2 s = log2_above s.limits.min
 
 -- a start fills all four records
 unfoldable pub started : FullBandSettings → FullBandErleEstimator
@@ -151,7 +148,7 @@ quality_answer s ch =
     let g = s.settings in
     answer_case (state_refusal s)
     (cond (ltb ch g.num_capture_channels)
-    (quality_of g.clamp_quality_estimate_to_zero g.clamp_quality_estimate_to_one (channel_at s ch).instantaneous_erle)
+    (quality_of g.clamps.to_zero g.clamps.to_one (channel_at s ch).instantaneous_erle)
     Absent)
 
 -- ---- answers read back

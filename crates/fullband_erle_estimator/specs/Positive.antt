@@ -10,4 +10,4 @@ use Rattle.fullband_erle_estimator.specs.FullBand.{settings_refusal}
 
 -- Claim: the minimum plus 0.001 is above 0 wherever the settings break neither 1 nor 2.
 unfoldable pub MinimumIsPositive : Type 0
-MinimumIsPositive = (s : FullBandSettings) → settings_refusal s ≡ accepted → lt zero32 (add binary32 s.min epsilon) ≡ true
+MinimumIsPositive = (s : FullBandSettings) → settings_refusal s ≡ accepted → lt zero32 (add binary32 s.limits.min epsilon) ≡ true

@@ -63,7 +63,7 @@ pub record ChannelNumbers (settings : FullBandSettings) (s : FullBandErleEstimat
   pub least : is_finite (channel_at s ch).instantaneous_erle.min_erle_log2 ≡ true
   pub quality : list_all is_finite (quality_of_channel s ch) ≡ true
   pub clamped :
-      settings.clamp_quality_estimate_to_zero ≡ true → settings.clamp_quality_estimate_to_one ≡ true
+      settings.clamps.to_zero ≡ true → settings.clamps.to_one ≡ true
       → list_all (number_from zero32 one32) (quality_of_channel s ch) ≡ true
 
 -- and so are the fullband figure and its decibels

@@ -145,14 +145,16 @@ impl FullBandErleEstimator {
     {
         let min_erle_log2 = self.settings.min_erle_log2();
         let loud = is_loud(block);
-        // By an index, not by `change`: that asks for a step which any record can take, and a channel's update asks for room.
+        // By an index, which also picks a channel's flag and its powers: by `change` an update took 1 to 3 % more instructions.
         for ch in 0..self.settings.num_capture_channels {
             let channel = self.channels[ch];
-            self.channels[ch] = if loud & block.converged_filters[ch] {
-                channel.update(min_erle_log2, block.own_y2(ch), block.own_e2(ch))
-            } else {
-                channel.decay()
-            };
+            let heard = loud & block.converged_filters[ch];
+            self.channels[ch] = channel.after_block(
+                min_erle_log2,
+                heard,
+                block.own_y2(ch),
+                block.own_e2(ch),
+            );
         }
         self
     }
@@ -198,7 +200,7 @@ impl FullBandErleEstimator {
         let quality = match self.own_channels().get(channel) {
             Some(own) => own
                 .instantaneous_erle
-                .quality_estimate(self.settings.quality_clamps()),
+                .quality_estimate(self.settings.clamps),
             None => OptionalNumber::Absent,
         };
         Ok(quality)

@@ -10,11 +10,8 @@ use fullband_channel::instantaneous::{EPSILON, QualityClamps};
 
 #[derive(Clone, Copy, Debug)]
 pub struct FullBandSettings {
-    pub min: f32,
-    pub max_l: f32,
-    pub max_h: f32,
-    pub clamp_quality_estimate_to_zero: bool,
-    pub clamp_quality_estimate_to_one: bool,
+    pub limits: ErleLimits,
+    pub clamps: QualityClamps,
     pub num_capture_channels: usize,
 }
 
@@ -24,42 +21,23 @@ impl From<ErleSettings> for FullBandSettings {
 
     fn from(settings: ErleSettings) -> FullBandSettings {
         FullBandSettings {
-            min: settings.min,
-            max_l: settings.max_l,
-            max_h: settings.max_h,
-            clamp_quality_estimate_to_zero: settings.clamp_quality_estimate_to_zero,
-            clamp_quality_estimate_to_one: settings.clamp_quality_estimate_to_one,
+            limits: settings.limits,
+            clamps: QualityClamps {
+                to_zero: settings.clamp_quality_estimate_to_zero,
+                to_one: settings.clamp_quality_estimate_to_one,
+            },
             num_capture_channels: settings.num_capture_channels,
         }
     }
 }
 
 impl FullBandSettings {
-    pub fn limits(self) -> ErleLimits
-        ensures { result ≡ (record { min = self.min; max_l = self.max_l; max_h = self.max_h }) }
-    {
-        ErleLimits {
-            min: self.min,
-            max_l: self.max_l,
-            max_h: self.max_h,
-        }
-    }
-
-    pub fn quality_clamps(self) -> QualityClamps
-        ensures { result ≡ (record { to_zero = self.clamp_quality_estimate_to_zero; to_one = self.clamp_quality_estimate_to_one }) }
-    {
-        QualityClamps {
-            to_zero: self.clamp_quality_estimate_to_zero,
-            to_one: self.clamp_quality_estimate_to_one,
-        }
-    }
-
     // The first of 1 and 2 that the settings break.
     #[tactic(auto, unfolding(crate::specs::FullBand::settings_refusal))]
     pub fn judge(self) -> Result<(), Refusal>
         ensures { number_of result ≡ settings_refusal self }
     {
-        judge_limits_and_channels(self.limits(), self.num_capture_channels)
+        judge_limits_and_channels(self.limits, self.num_capture_channels)
     }
 
     // Log2 of (the minimum plus 0.001).
@@ -67,6 +45,6 @@ impl FullBandSettings {
     pub fn min_erle_log2(self) -> f32
         ensures { result ≡ min_log2 self }
     {
-        approx_log2(self.min + EPSILON)
+        approx_log2(self.limits.min + EPSILON)
     }
 }

@@ -8,55 +8,44 @@ use replay_erl::ReplayedErl;
 use replay_erle::ReplayedErle;
 use replay_leaves::replay_leaf;
 use replay_signal::ReplayedSignal;
-use script::{Fault, Fields, replay, replay_script};
-use std::alloc::{AllocError, Global};
+use script::{Fault, Record, Standing, replay_script};
+use std::alloc::AllocError;
 use std::rt::Env;
 
-// One estimator of each sort stands from one record to the next.
-#[derive(Clone, Copy)]
-struct Standing {
-    erl: Option<ReplayedErl>,
-    erle: Option<ReplayedErle>,
-    signal: Option<ReplayedSignal>,
+// One estimator of each sort stands from one record to the next. A word of the command line decides whether the state is shown.
+#[derive(Clone, Copy, Debug)]
+struct Estimators {
+    erl: Standing<ReplayedErl>,
+    erle: Standing<ReplayedErle>,
+    signal: Standing<ReplayedSignal>,
     shows_state: bool,
 }
 
-impl Standing {
-    fn replay_erle(
-        &mut self,
-        alloc: Global,
-        kind: u16,
-        fields: Fields,
-        text: &mut String,
-    ) -> Result<(), Fault> {
-        replay(alloc, &mut self.erle, kind, fields, text)?;
+impl Estimators {
+    fn replay_erle(&mut self, record: Record, text: &mut String) -> Result<(), Fault> {
+        self.erle.replay(record, text)?;
         if self.shows_state
-            && let Some(ReplayedErle(erle)) = &self.erle
+            && let Some(ReplayedErle(erle)) = &self.erle.estimator
         {
             write!(text, "{}", ErleState(erle))?;
         }
         Ok(())
     }
 
-    // The digits of a kind before the last tell the sorts apart, the last one the calls of a sort.
-    fn replay(
-        &mut self,
-        alloc: Global,
-        kind: u16,
-        fields: Fields,
-        text: &mut String,
-    ) -> Result<(), Fault> {
-        match kind / 16 {
-            0x010 => replay_leaf(kind, fields, text),
-            0x011 => replay(alloc, &mut self.erl, kind, fields, text),
-            0x012 => self.replay_erle(alloc, kind, fields, text),
-            0x014 => replay(alloc, &mut self.signal, kind, fields, text),
+    // Each sort is asked for at this one place, so its number has no other name.
+    fn replay(&mut self, record: Record, text: &mut String) -> Result<(), Fault> {
+        match record.sort() {
+            0x010 => Ok(write!(text, "{}", replay_leaf(record)?)?),
+            0x011 => self.erl.replay(record, text),
+            0x012 => self.replay_erle(record, text),
+            0x014 => self.signal.replay(record, text),
             _ => Err(Fault::Malformed),
         }
     }
 }
 
-// Whether the inner state is asked for. A longer word finds no room and counts as none.
+// Whether the inner state is asked for. A longer word finds no room and counts as none. `env::args` would copy every argument,
+// and fail at one that is no UTF-8.
 fn state_asked<E: Env>(rt: &E) -> bool {
     let mut word = [0; 5];
     match rt.arg(1, &mut word) {
@@ -66,17 +55,16 @@ fn state_asked<E: Env>(rt: &E) -> bool {
 }
 
 fn main(rt: HostRuntime) -> Result<(), AllocError> {
-    let alloc = rt.alloc();
-    let mut standing = Standing {
-        erl: None,
-        erle: None,
-        signal: None,
+    let mut estimators = Estimators {
+        erl: Standing::new(),
+        erle: Standing::new(),
+        signal: Standing::new(),
         shows_state: state_asked(&rt),
     };
     replay_script(
-        alloc,
+        rt.alloc(),
         &mut rt.stdin(),
         &mut rt.stdout(),
-        |kind: u16, fields: Fields, text: &mut String| standing.replay(alloc, kind, fields, text),
+        |record: Record, text: &mut String| estimators.replay(record, text),
     )
 }

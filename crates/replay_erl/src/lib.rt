@@ -1,13 +1,14 @@
 // Kinds 0110 to 0112: the ERL estimator.
 #![tactic(auto)]
 
+ghost use Rattle.replay_erl.specs.Updates.{ErlReads};
+
 use aec3_common::Refusal;
 use erl_estimator::{ErlBlock, ErlEstimator};
-use script::{Bits, Call, Fault, Fields, Figures, Malformed, Replayed};
-use std::alloc::Global;
+use script::{Bits, Fault, Fields, Figures, FromFields, Malformed, Replayed};
 use std::fmt;
 
-#[derive(Clone, Copy)]
+#[derive(Clone, Copy, Debug)]
 pub struct ReplayedErl(ErlEstimator);
 
 // An update's channels and lists.
@@ -21,25 +22,6 @@ pub struct ErlLists {
 }
 
 impl ErlLists {
-    // Capture channels, render channels, the lengths of three lists, and the lists: flags, renders, captures.
-    fn read(alloc: Global, fields: &mut Fields) -> Result<ErlLists, Fault> {
-        let num_capture_channels = fields.count()?;
-        let num_render_channels = fields.count()?;
-        let flags = fields.word()?;
-        let render_floats = fields.word()?;
-        let capture_floats = fields.word()?;
-        let converged_filters = fields.flags(alloc, flags)?;
-        let render_spectra = fields.floats(alloc, render_floats)?;
-        let capture_spectra = fields.floats(alloc, capture_floats)?;
-        Ok(ErlLists {
-            num_capture_channels,
-            num_render_channels,
-            converged_filters,
-            render_spectra,
-            capture_spectra,
-        })
-    }
-
     fn block(&self) -> ErlBlock<'_> {
         ErlBlock {
             num_capture_channels: self.num_capture_channels,
@@ -48,6 +30,31 @@ impl ErlLists {
             render_spectra: self.render_spectra.as_slice(),
             capture_spectra: self.capture_spectra.as_slice(),
         }
+    }
+}
+
+// Capture channels, render channels, the lengths of three lists, and the lists: flags, renders, captures.
+impl FromFields for ErlLists {
+    type Error = Fault;
+
+    ghost reads = { ErlReads };
+
+    fn from_fields(fields: &mut Fields) -> Result<ErlLists, Fault> {
+        let num_capture_channels = fields.count()?;
+        let num_render_channels = fields.count()?;
+        let flags = fields.word()?;
+        let render_floats = fields.word()?;
+        let capture_floats = fields.word()?;
+        let converged_filters = fields.flags(flags)?;
+        let render_spectra = fields.floats(render_floats)?;
+        let capture_spectra = fields.floats(capture_floats)?;
+        Ok(ErlLists {
+            num_capture_channels,
+            num_render_channels,
+            converged_filters,
+            render_spectra,
+            capture_spectra,
+        })
     }
 }
 
@@ -61,25 +68,10 @@ impl Replayed for ReplayedErl {
 
     const NAME: &'static str = "erl";
 
-    fn call_of(kind: u16) -> Option<Call> {
-        match kind {
-            0x0110 => Some(Call::Start),
-            0x0111 => Some(Call::Update),
-            0x0112 => Some(Call::Reset),
-            _ => None,
-        }
-    }
+    const REPEATS: bool = false;
 
     fn settings_in(fields: &mut Fields) -> Result<u32, Malformed> {
         fields.word()
-    }
-
-    fn update_in(alloc: Global, fields: &mut Fields) -> Result<ErlLists, Fault> {
-        ErlLists::read(alloc, fields)
-    }
-
-    fn change_in(_fields: &mut Fields) -> Result<(), Malformed> {
-        Ok(())
     }
 
     fn start(startup_phase_length_blocks: u32) -> Result<Self, Refusal> {
@@ -87,9 +79,7 @@ impl Replayed for ReplayedErl {
     }
 
     fn update(&mut self, update: &ErlLists) -> Result<(), Refusal> {
-        let answer = self.0.update(&update.block());
-        self.0 = answer.state;
-        answer.outcome
+        self.0.update(&update.block()).settle(&mut self.0)
     }
 
     fn reset(&mut self, _change: ()) -> Result<(), Refusal> {
@@ -103,5 +93,31 @@ impl fmt::Display for ReplayedErl {
     fn fmt<W: fmt::Write>(&self, f: &mut fmt::Formatter<W>) -> fmt::Result {
         let time_domain = Bits(self.0.erl_time_domain);
         writeln!(f, "erl{} {time_domain}", Figures(&self.0.erl))
+    }
+}
+
+#[cfg(test)]
+mod tests {
+    use super::*;
+    use script::{Record, Standing};
+    use std::test::Fail;
+
+    // One channel of each sort, without a converged filter and without power.
+    #[test]
+    fn replays_a_start_and_an_update(rt: HostRuntime) -> Result<(), Fail> {
+        let mut standing: Standing<ReplayedErl> = Standing::new();
+        let start = [16, 1, 100, 0, 0, 0];
+        let mut text = String::new(rt.alloc());
+        standing.replay(Record::new(rt.alloc(), &start)?, &mut text)?;
+        assert!(rt; text.starts_with("erl start\n"));
+        let mut update = [
+            17, 1, 1, 0, 0, 0, 1, 0, 0, 0, 1, 0, 0, 0, 65, 0, 0, 0, 65, 0, 0, 0,
+        ]
+        .to_vec(rt.alloc())?;
+        update.resize(543, 0)?;
+        text.clear();
+        standing.replay(Record::new(rt.alloc(), &update)?, &mut text)?;
+        assert!(rt; text.starts_with("erl ok\n"));
+        Ok(())
     }
 }

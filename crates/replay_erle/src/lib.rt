@@ -1,15 +1,14 @@
 // Kinds 0120 to 0122: the whole ERLE estimator.
 #![tactic(auto)]
 
-use aec3_common::Refusal;
-use erle_estimator::{ErleEstimator, ErleSettings};
+use aec3_common::{ErleLimits, FilterLayout, Refusal};
+use erle_estimator::{ErleEstimator, ErleSettings, Inputs};
 use erle_lines::ErleFigures;
-use script::{Call, Fault, Fields, Malformed, Replayed};
-use std::alloc::Global;
+use script::{Fields, FromFields, Malformed, Replayed};
 use std::fmt;
 use update_bodies::RingLists;
 
-#[derive(Clone, Copy)]
+#[derive(Clone, Copy, Debug)]
 pub struct ReplayedErle(pub ErleEstimator);
 
 // The startup count and the settings of a start.
@@ -29,39 +28,20 @@ impl Replayed for ReplayedErle {
 
     const NAME: &'static str = "erle";
 
-    fn call_of(kind: u16) -> Option<Call> {
-        match kind {
-            0x0120 => Some(Call::Start),
-            0x0121 => Some(Call::Update),
-            0x0122 => Some(Call::Reset),
-            _ => None,
-        }
-    }
+    const REPEATS: bool = false;
 
     fn settings_in(fields: &mut Fields) -> Result<ErleStart, Malformed> {
         Ok(ErleStart {
             startup_phase_length_blocks: fields.word()?,
             settings: ErleSettings {
-                min: fields.float()?,
-                max_l: fields.float()?,
-                max_h: fields.float()?,
+                limits: ErleLimits::from_fields(fields)?,
                 onset_detection: fields.flag()?,
                 num_capture_channels: fields.count()?,
-                num_sections: fields.count()?,
-                filter_length_blocks: fields.count()?,
-                delay_headroom_samples: fields.count()?,
+                layout: FilterLayout::from_fields(fields)?,
                 clamp_quality_estimate_to_zero: fields.flag()?,
                 clamp_quality_estimate_to_one: fields.flag()?,
             },
         })
-    }
-
-    fn update_in(alloc: Global, fields: &mut Fields) -> Result<RingLists, Fault> {
-        RingLists::read(alloc, fields)
-    }
-
-    fn change_in(fields: &mut Fields) -> Result<bool, Malformed> {
-        fields.flag()
     }
 
     fn start(start: ErleStart) -> Result<Self, Refusal> {
@@ -69,22 +49,51 @@ impl Replayed for ReplayedErle {
     }
 
     fn update(&mut self, update: &RingLists) -> Result<(), Refusal> {
-        let answer = self
-            .0
-            .update(&update.render(), &update.responses(), &update.block());
-        self.0 = answer.state;
-        answer.outcome
+        let inputs = Inputs {
+            render: update.render(),
+            responses: update.responses(),
+            block: update.block(),
+        };
+        self.0.update(&inputs).settle(&mut self.0)
     }
 
     fn reset(&mut self, delay_change: bool) -> Result<(), Refusal> {
-        let answer = self.0.reset(delay_change);
-        self.0 = answer.state;
-        answer.outcome
+        self.0.reset(delay_change).settle(&mut self.0)
     }
 }
 
 impl fmt::Display for ReplayedErle {
     fn fmt<W: fmt::Write>(&self, f: &mut fmt::Formatter<W>) -> fmt::Result {
         write!(f, "{}", ErleFigures(&self.0))
+    }
+}
+
+#[cfg(test)]
+mod tests {
+    use super::*;
+    use script::{Record, Standing};
+    use std::test::Fail;
+
+    // One channel whose response has no blocks, a ring of two slots, and no power.
+    #[test]
+    fn replays_a_start_and_an_update(rt: HostRuntime) -> Result<(), Fail> {
+        let mut standing: Standing<ReplayedErle> = Standing::new();
+        let start = [
+            32, 1, 0, 0, 0, 0, 0, 0, 128, 63, 0, 0, 128, 64, 0, 0, 192, 63, 1, 0, 0, 0, 1, 0, 0, 0,
+            1, 0, 0, 0, 1, 0, 0, 0, 0, 0, 0, 0, 0, 0, 0, 0, 0, 0, 0, 0,
+        ];
+        let mut text = String::new(rt.alloc());
+        standing.replay(Record::new(rt.alloc(), &start)?, &mut text)?;
+        assert!(rt; text.starts_with("erle start\n"));
+        let mut update = [
+            33, 1, 1, 0, 0, 0, 2, 0, 0, 0, 1, 0, 0, 0, 0, 0, 0, 0, 1, 0, 0, 0, 65, 0, 0, 0, 65, 0,
+            0, 0, 65, 0, 0, 0, 130, 0, 0, 0,
+        ]
+        .to_vec(rt.alloc())?;
+        update.resize(1343, 0)?;
+        text.clear();
+        standing.replay(Record::new(rt.alloc(), &update)?, &mut text)?;
+        assert!(rt; text.starts_with("erle ok\n"));
+        Ok(())
     }
 }

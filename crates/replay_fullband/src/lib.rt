@@ -1,15 +1,15 @@
 // Kinds 0150 to 0153: the fullband estimator.
 #![tactic(auto)]
 
-use aec3_common::Refusal;
-use channel_lines::{FullReadings, FullbandState};
-use fullband_erle_estimator::{FullBandErleEstimator, FullBandSettings};
-use script::{Call, Fault, Fields, Malformed, Replayed};
-use std::alloc::Global;
-use std::fmt;
+use aec3_common::settings::MAX_CAPTURE_CHANNELS;
+use aec3_common::{ErleLimits, Refusal};
+use channel_lines::{ChannelState, FullReadings};
+use fullband_erle_estimator::{FullBandErleEstimator, FullBandSettings, QualityClamps};
+use script::{Fields, FromFields, Malformed, Replayed};
+use std::{array, fmt};
 use update_bodies::BlockLists;
 
-#[derive(Clone, Copy)]
+#[derive(Clone, Copy, Debug)]
 pub struct ReplayedFullband(FullBandErleEstimator);
 
 impl Replayed for ReplayedFullband {
@@ -21,33 +21,17 @@ impl Replayed for ReplayedFullband {
 
     const NAME: &'static str = "fullband";
 
-    fn call_of(kind: u16) -> Option<Call> {
-        match kind {
-            0x0150 => Some(Call::Start),
-            0x0151 => Some(Call::Update),
-            0x0152 => Some(Call::Reset),
-            0x0153 => Some(Call::Repeat),
-            _ => None,
-        }
-    }
+    const REPEATS: bool = true;
 
     fn settings_in(fields: &mut Fields) -> Result<FullBandSettings, Malformed> {
         Ok(FullBandSettings {
-            min: fields.float()?,
-            max_l: fields.float()?,
-            max_h: fields.float()?,
-            clamp_quality_estimate_to_zero: fields.flag()?,
-            clamp_quality_estimate_to_one: fields.flag()?,
+            limits: ErleLimits::from_fields(fields)?,
+            clamps: QualityClamps {
+                to_zero: fields.flag()?,
+                to_one: fields.flag()?,
+            },
             num_capture_channels: fields.count()?,
         })
-    }
-
-    fn update_in(alloc: Global, fields: &mut Fields) -> Result<BlockLists, Fault> {
-        BlockLists::read(alloc, fields)
-    }
-
-    fn change_in(_fields: &mut Fields) -> Result<(), Malformed> {
-        Ok(())
     }
 
     fn start(settings: FullBandSettings) -> Result<Self, Refusal> {
@@ -55,15 +39,11 @@ impl Replayed for ReplayedFullband {
     }
 
     fn update(&mut self, update: &BlockLists) -> Result<(), Refusal> {
-        let answer = self.0.update(&update.block());
-        self.0 = answer.state;
-        answer.outcome
+        self.0.update(&update.block()).settle(&mut self.0)
     }
 
     fn reset(&mut self, _change: ()) -> Result<(), Refusal> {
-        let answer = self.0.reset();
-        self.0 = answer.state;
-        answer.outcome
+        self.0.reset().settle(&mut self.0)
     }
 }
 
@@ -71,16 +51,46 @@ impl Replayed for ReplayedFullband {
 impl fmt::Display for ReplayedFullband {
     fn fmt<W: fmt::Write>(&self, f: &mut fmt::Formatter<W>) -> fmt::Result {
         let num_channels = self.0.settings.num_capture_channels;
+        let qualities: [_; MAX_CAPTURE_CHANNELS] = array::from_fn(|c| self
+            .0
+            .linear_quality_estimate(c));
         let readings = FullReadings {
-            num_channels,
             log2: self.0.fullband_erle_log2(),
             db: self.0.fullband_erle_db(),
-            qualities: [0, 1, 2, 3].map(|c| self.0.linear_quality_estimate(c)),
+            qualities: &qualities[..num_channels.min(MAX_CAPTURE_CHANNELS)],
         };
         write!(f, "{readings}")?;
         for (index, channel) in self.0.channels.iter().take(num_channels).enumerate() {
-            write!(f, "{}", FullbandState { index, channel })?;
+            write!(f, "{}", ChannelState { index, channel })?;
         }
+        Ok(())
+    }
+}
+
+#[cfg(test)]
+mod tests {
+    use super::*;
+    use script::{Record, Standing};
+    use std::test::Fail;
+
+    // One channel, without a converged filter and without power.
+    #[test]
+    fn replays_a_start_and_an_update(rt: HostRuntime) -> Result<(), Fail> {
+        let mut standing: Standing<ReplayedFullband> = Standing::new();
+        let start = [
+            80, 1, 0, 0, 128, 63, 0, 0, 128, 64, 0, 0, 192, 63, 0, 0, 0, 0, 0, 0, 0, 0, 1, 0, 0, 0,
+        ];
+        let mut text = String::new(rt.alloc());
+        standing.replay(Record::new(rt.alloc(), &start)?, &mut text)?;
+        assert!(rt; text.starts_with("fullband start\n"));
+        let mut update = [
+            81, 1, 1, 0, 0, 0, 1, 0, 0, 0, 65, 0, 0, 0, 65, 0, 0, 0, 65, 0, 0, 0,
+        ]
+        .to_vec(rt.alloc())?;
+        update.resize(803, 0)?;
+        text.clear();
+        standing.replay(Record::new(rt.alloc(), &update)?, &mut text)?;
+        assert!(rt; text.starts_with("fullband ok\n"));
         Ok(())
     }
 }

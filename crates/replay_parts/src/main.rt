@@ -5,22 +5,21 @@
 
 use replay_fullband::ReplayedFullband;
 use replay_subband::ReplayedSubband;
-use script::{Fault, Fields, replay, replay_script};
+use script::{Fault, Record, Standing, replay_script};
 use std::alloc::AllocError;
 
-// One estimator of each sort stands from one record to the next. The digits of a kind before the last tell the sorts apart, the
-// last one the calls of a sort.
+// One estimator of each sort stands from one record to the next. Each sort is asked for at this one place, so its number has no
+// other name.
 fn main(rt: HostRuntime) -> Result<(), AllocError> {
-    let alloc = rt.alloc();
-    let mut subband: Option<ReplayedSubband> = None;
-    let mut fullband: Option<ReplayedFullband> = None;
+    let mut subband: Standing<ReplayedSubband> = Standing::new();
+    let mut fullband: Standing<ReplayedFullband> = Standing::new();
     replay_script(
-        alloc,
+        rt.alloc(),
         &mut rt.stdin(),
         &mut rt.stdout(),
-        |kind: u16, fields: Fields, text: &mut String| match kind / 16 {
-            0x013 => replay(alloc, &mut subband, kind, fields, text),
-            0x015 => replay(alloc, &mut fullband, kind, fields, text),
+        |record: Record, text: &mut String| match record.sort() {
+            0x013 => subband.replay(record, text),
+            0x015 => fullband.replay(record, text),
             _ => Err(Fault::Malformed),
         },
     )

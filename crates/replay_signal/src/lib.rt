@@ -1,80 +1,56 @@
 // Kinds 0140 to 0142: the signal-dependent estimator.
 #![tactic(auto)]
 
-use aec3_common::Refusal;
-use script::{Call, Fault, Fields, Figures, Malformed, Replayed};
+use aec3_common::{ErleLimits, FilterLayout, Refusal};
+use script::{Fields, Figures, FromFields, Malformed, Replayed};
 use signal_dependent_erle_estimator::{
-    Averages, SignalDependentErleEstimator, SignalDependentSettings, erle,
+    Averages, Inputs, SignalDependentErleEstimator, SignalDependentSettings, erle,
 };
-use std::alloc::Global;
 use std::fmt;
-use update_bodies::RingLists;
+use update_bodies::AveragedLists;
 
-#[derive(Clone, Copy)]
+#[derive(Clone, Copy, Debug)]
 pub struct ReplayedSignal(SignalDependentErleEstimator);
 
 impl Replayed for ReplayedSignal {
     type Settings = SignalDependentSettings;
 
-    type Update = RingLists;
+    type Update = AveragedLists;
 
     type Change = ();
 
     const NAME: &'static str = "signal";
 
-    fn call_of(kind: u16) -> Option<Call> {
-        match kind {
-            0x0140 => Some(Call::Start),
-            0x0141 => Some(Call::Update),
-            0x0142 => Some(Call::Reset),
-            _ => None,
-        }
-    }
+    const REPEATS: bool = false;
 
     fn settings_in(fields: &mut Fields) -> Result<SignalDependentSettings, Malformed> {
         Ok(SignalDependentSettings {
-            min: fields.float()?,
-            max_l: fields.float()?,
-            max_h: fields.float()?,
+            limits: ErleLimits::from_fields(fields)?,
             onset_detection: fields.flag()?,
             num_capture_channels: fields.count()?,
-            num_sections: fields.count()?,
-            filter_length_blocks: fields.count()?,
-            delay_headroom_samples: fields.count()?,
+            layout: FilterLayout::from_fields(fields)?,
         })
-    }
-
-    fn update_in(alloc: Global, fields: &mut Fields) -> Result<RingLists, Fault> {
-        RingLists::read_with_averages(alloc, fields)
-    }
-
-    fn change_in(_fields: &mut Fields) -> Result<(), Malformed> {
-        Ok(())
     }
 
     fn start(settings: SignalDependentSettings) -> Result<Self, Refusal> {
         SignalDependentErleEstimator::new(settings).map(ReplayedSignal)
     }
 
-    fn update(&mut self, update: &RingLists) -> Result<(), Refusal> {
+    fn update(&mut self, update: &AveragedLists) -> Result<(), Refusal> {
         let averages = Averages {
             plain: update.average(),
             compensated: update.average_compensated(),
         };
-        let answer = self.0.update(
-            &update.render(),
-            &update.responses(),
-            &update.block(),
-            &averages,
-        );
-        self.0 = answer.state;
-        answer.outcome
+        let inputs = Inputs {
+            render: update.lists.render(),
+            responses: update.lists.responses(),
+            block: update.lists.block(),
+        };
+        self.0.update(&inputs, &averages).settle(&mut self.0)
     }
 
     fn reset(&mut self, _change: ()) -> Result<(), Refusal> {
-        let answer = self.0.reset();
-        self.0 = answer.state;
-        answer.outcome
+        self.0.reset().settle(&mut self.0)
     }
 }
 
@@ -91,6 +67,36 @@ impl fmt::Display for ReplayedSignal {
             writeln!(f, "sigplain {c}{}", Figures(plain))?;
             writeln!(f, "sigcomp {c}{}", Figures(compensated))?;
         }
+        Ok(())
+    }
+}
+
+#[cfg(test)]
+mod tests {
+    use super::*;
+    use script::{Record, Standing};
+    use std::test::Fail;
+
+    // One channel whose response has no blocks, a ring of two slots, and no power.
+    #[test]
+    fn replays_a_start_and_an_update(rt: HostRuntime) -> Result<(), Fail> {
+        let mut standing: Standing<ReplayedSignal> = Standing::new();
+        let start = [
+            64, 1, 0, 0, 128, 63, 0, 0, 128, 64, 0, 0, 192, 63, 1, 0, 0, 0, 1, 0, 0, 0, 1, 0, 0, 0,
+            1, 0, 0, 0, 0, 0, 0, 0,
+        ];
+        let mut text = String::new(rt.alloc());
+        standing.replay(Record::new(rt.alloc(), &start)?, &mut text)?;
+        assert!(rt; text.starts_with("signal start\n"));
+        let mut update = [
+            65, 1, 1, 0, 0, 0, 2, 0, 0, 0, 1, 0, 0, 0, 0, 0, 0, 0, 1, 0, 0, 0, 65, 0, 0, 0, 65, 0,
+            0, 0, 65, 0, 0, 0, 130, 0, 0, 0, 65, 0, 0, 0, 65, 0, 0, 0,
+        ]
+        .to_vec(rt.alloc())?;
+        update.resize(1871, 0)?;
+        text.clear();
+        standing.replay(Record::new(rt.alloc(), &update)?, &mut text)?;
+        assert!(rt; text.starts_with("signal ok\n"));
         Ok(())
     }
 }

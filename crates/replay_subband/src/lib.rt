@@ -1,15 +1,14 @@
 // Kinds 0130 to 0133: the subband estimator.
 #![tactic(auto)]
 
-use aec3_common::Refusal;
-use channel_lines::SubbandState;
-use script::{Call, Fault, Fields, Figures, Malformed, Replayed};
-use std::alloc::Global;
+use aec3_common::{ErleLimits, Refusal};
+use channel_lines::{ChannelState, ChannelStreams};
+use script::{Fields, Figures, FromFields, Malformed, Replayed};
 use std::fmt;
 use subband_erle_estimator::{SubbandErleEstimator, SubbandSettings, erle};
 use update_bodies::BlockLists;
 
-#[derive(Clone, Copy)]
+#[derive(Clone, Copy, Debug)]
 pub struct ReplayedSubband(SubbandErleEstimator);
 
 impl Replayed for ReplayedSubband {
@@ -21,32 +20,14 @@ impl Replayed for ReplayedSubband {
 
     const NAME: &'static str = "subband";
 
-    fn call_of(kind: u16) -> Option<Call> {
-        match kind {
-            0x0130 => Some(Call::Start),
-            0x0131 => Some(Call::Update),
-            0x0132 => Some(Call::Reset),
-            0x0133 => Some(Call::Repeat),
-            _ => None,
-        }
-    }
+    const REPEATS: bool = true;
 
     fn settings_in(fields: &mut Fields) -> Result<SubbandSettings, Malformed> {
         Ok(SubbandSettings {
-            min: fields.float()?,
-            max_l: fields.float()?,
-            max_h: fields.float()?,
+            limits: ErleLimits::from_fields(fields)?,
             onset_detection: fields.flag()?,
             num_capture_channels: fields.count()?,
         })
-    }
-
-    fn update_in(alloc: Global, fields: &mut Fields) -> Result<BlockLists, Fault> {
-        BlockLists::read(alloc, fields)
-    }
-
-    fn change_in(_fields: &mut Fields) -> Result<(), Malformed> {
-        Ok(())
     }
 
     fn start(settings: SubbandSettings) -> Result<Self, Refusal> {
@@ -54,15 +35,11 @@ impl Replayed for ReplayedSubband {
     }
 
     fn update(&mut self, update: &BlockLists) -> Result<(), Refusal> {
-        let answer = self.0.update(&update.block());
-        self.0 = answer.state;
-        answer.outcome
+        self.0.update(&update.block()).settle(&mut self.0)
     }
 
     fn reset(&mut self, _change: ()) -> Result<(), Refusal> {
-        let answer = self.0.reset();
-        self.0 = answer.state;
-        answer.outcome
+        self.0.reset().settle(&mut self.0)
     }
 }
 
@@ -72,17 +49,47 @@ impl fmt::Display for ReplayedSubband {
     fn fmt<W: fmt::Write>(&self, f: &mut fmt::Formatter<W>) -> fmt::Result {
         let settings = self.0.settings;
         let shown = self.0.channels.iter().take(settings.num_capture_channels);
-        for (c, channel) in shown.enumerate() {
-            let plain = channel.erle.as_slice();
+        for (index, channel) in shown.enumerate() {
             let held = channel.erle_onset_compensated.as_slice();
-            let compensated = erle(plain, held, true, settings.onset_detection);
-            writeln!(f, "plain {c}{}", Figures(plain))?;
-            writeln!(f, "comp {c}{}", Figures(compensated))?;
-            writeln!(f, "unb {c}{}", Figures(&channel.erle_unbounded))?;
-            writeln!(f, "onsets {c}{}", Figures(&channel.erle_onsets))?;
-            writeln!(f, "rawcomp {c}{}", Figures(held))?;
-            write!(f, "{}", SubbandState { index: c, channel })?;
+            let plain = channel.erle.as_slice();
+            let streams = ChannelStreams {
+                index,
+                plain,
+                compensated: erle(plain, held, true, settings.onset_detection),
+                unbounded: &channel.erle_unbounded,
+                onsets: &channel.erle_onsets,
+            };
+            let state = ChannelState { index, channel };
+            write!(f, "{streams}rawcomp {index}{}\n{state}", Figures(held))?;
         }
+        Ok(())
+    }
+}
+
+#[cfg(test)]
+mod tests {
+    use super::*;
+    use script::{Record, Standing};
+    use std::test::Fail;
+
+    // One channel, without a converged filter and without power.
+    #[test]
+    fn replays_a_start_and_an_update(rt: HostRuntime) -> Result<(), Fail> {
+        let mut standing: Standing<ReplayedSubband> = Standing::new();
+        let start = [
+            48, 1, 0, 0, 128, 63, 0, 0, 128, 64, 0, 0, 192, 63, 1, 0, 0, 0, 1, 0, 0, 0,
+        ];
+        let mut text = String::new(rt.alloc());
+        standing.replay(Record::new(rt.alloc(), &start)?, &mut text)?;
+        assert!(rt; text.starts_with("subband start\n"));
+        let mut update = [
+            49, 1, 1, 0, 0, 0, 1, 0, 0, 0, 65, 0, 0, 0, 65, 0, 0, 0, 65, 0, 0, 0,
+        ]
+        .to_vec(rt.alloc())?;
+        update.resize(803, 0)?;
+        text.clear();
+        standing.replay(Record::new(rt.alloc(), &update)?, &mut text)?;
+        assert!(rt; text.starts_with("subband ok\n"));
         Ok(())
     }
 }

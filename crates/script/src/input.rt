@@ -6,7 +6,8 @@ use encoding::word_at;
 use std::io::Read;
 
 // Reads until a buffer is full or no more bytes come; how many came. None come at the end of the input, or where the read fails.
-// The loop stays: std's read_exact does not tell an end before the first byte from one behind it.
+// The loop stays: a read that fails ends the input here as its end does, but std's read_exact tries an interrupted read again, and does
+// not tell an end before the first byte from one behind it.
 pub fn read_full<R: Read>(reader: &mut R, buffer: &mut [u8]) -> usize
     ensures { result ≤ length buffer.new }
 {

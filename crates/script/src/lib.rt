@@ -6,15 +6,19 @@
 pub mod call;
 pub mod fault;
 pub mod fields;
+pub mod from_fields;
 pub mod input;
 pub mod line;
+pub mod record;
 pub mod replayed;
 pub mod run;
 
 pub use call::{Call, Reply};
 pub use fault::{Fault, Malformed};
 pub use fields::Fields;
+pub use from_fields::FromFields;
 pub use input::{next_record, read_full};
 pub use line::{Bits, Digits, Figures, OrRefused, Row};
-pub use replayed::{Replayed, replay};
+pub use record::Record;
+pub use replayed::{Replayed, Standing};
 pub use run::{replay_script, write_out};

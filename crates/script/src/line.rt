@@ -26,7 +26,8 @@ impl<T: fmt::Display> fmt::Display for Row<'_, T> {
     }
 }
 
-// The same for figures. It stays beside `Row`: a row of `Bits` would need a copy of the list.
+// The same for figures. It stays beside `Row`, whose fields are shown by `Display`: of an f32 that is not its bits, and a trait with an
+// impl for each sort of field would be longer.
 #[derive(Clone, Copy, Debug)]
 pub struct Figures<'a>(pub &'a [f32]);
 

@@ -8,7 +8,8 @@ use native.Mathlib.Omega.{arith}
 use borrow.Author.Tests.{lt-ltb}
 use lib.Dec.{ltb}
 use lib.Ieee.{Float, nan}
-use lib.ListN.{get_or}
+use lib.ListN.{length, get_or, take}
+use Rattle.std.proofs.lemmas.List.{length-take-le, get_or-take}
 use Rattle.aec3_common.specs.Binary32.{zero32}
 use Rattle.aec3_common.proofs.Tables.{get_or-tab, tab-same}
 use Rattle.section_echoes.specs.declared.RenderRing.{RenderRing}
@@ -42,6 +43,14 @@ unfolding active_section
 active-same sections sums others some same =
     rw (least-same (reached sections sums) (reached sections others) sections
     (λ s h. rw (same (sections - 1) (omega arith), same s h)))
+
+-- the sums of the sections alone tell as much
+pub active-lent :
+    (sections : ℕ) (sums : List (List Float)) → 1 ≤ sections → sections ≤ length sums
+    → bands (λ k. active_section (length (take sections sums)) (λ s. sum_at (take sections sums) s k)) ≡ bands (λ k. active_section sections (λ s. sum_at sums s k))
+active-lent sections sums some long =
+    ap (λ (n : ℕ). bands (λ k. active_section n (λ s. sum_at (take sections sums) s k))) (length-take-le sections sums long)
+    ∙ tab-same 65 0 _ _ (λ k b. active-same sections _ _ some (λ s h. ap (λ (l : List Float). get_or l k nan) (get_or-take sections sums s [] h)))
 
 module _ (ring : RenderRing) (spectra : List Float) (headroom : ℕ) (boundaries : List ℕ) (sections count : ℕ) (responses : List Float) where
   -- the echo sums of the render sums are those of the definition

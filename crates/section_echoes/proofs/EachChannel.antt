@@ -17,7 +17,7 @@ use Rattle.section_echoes.specs.declared.RenderRing.{RenderRing}
 use Rattle.section_echoes.specs.Echoes.{render_sum, fewer, section_begin, section_blocks, section_render, active_section, active_sections}
 use Rattle.section_echoes.specs.Packed.{total, responses_of}
 use Rattle.section_echoes.specs.Steps.{bands, first_sections, render_sums, sum_at, echo_sums, all_active}
-use Rattle.section_echoes.proofs.Channel.{active-sections-are}
+use Rattle.section_echoes.proofs.Channel.{active-lent, active-sections-are}
 use Rattle.section_echoes.proofs.Packed.{total-more, packed-end}
 
 -- no active section in any channel yet
@@ -96,11 +96,11 @@ module _
         → next ≡ render_sums ring spectra headroom boundaries sections (get_or counts ch 0)
         → own ≡ take (get_or counts ch 0 * 65) rest → later ≡ drop (get_or counts ch 0 * 65) rest
         → length own ≡ get_or counts ch 0 * 65
-        → sums ≡ echo_sums next own boundaries sections (length own / 65)
-        → active ≡ bands (λ k. active_section sections (λ s. sum_at sums s k))
+        → sums ≡ echo_sums next own boundaries sections (length own / 65) → length sums ≡ 8
+        → active ≡ bands (λ k. active_section (length (take sections sums)) (λ s. sum_at (take sections sums) s k))
         → ch < length counts → length counts ≤ 4
         → Going ring spectra headroom boundaries sections counts responses (set r ch active) next (get_or counts ch 0) later (ch + 1)
-    going_more {next = next} {sums = sums} {active = active} {own = lent} (some, all) made first behind long summed found h few =
+    going_more {next = next} {sums = sums} {active = active} {own = lent} (some, all) made first behind long summed eight found h few =
         let count : ℕ = get_or counts ch 0 in
         let own : List Float = responses_of counts responses ch in
         let counted : length lent / 65 ≡ count = omega (arith, long) in
@@ -112,6 +112,7 @@ module _
           stored =
               stored_more active g.stored h few
               (found
+              ∙ active-lent sections sums some (omega (arith, eight))
               ∙ ap (λ (x : List (List Float)). bands (λ k. active_section sections (λ s. sum_at x s k))) echoes
               ∙ active-sections-are ring spectra headroom boundaries sections count own some all);
         }

@@ -1,15 +1,20 @@
 -- Where the ring walk is.
-use mathlib.Core.Path.{◌≡◌, sym, ap, ◌∙◌}
+use mathlib.Core.Path.{◌≡◌, refl, sym, ap, ◌∙◌}
 use mathlib.Core.List.{List}
 use Prim.Native.Nat.{ℕ, zero, suc, ◌+◌, ◌-◌, ◌*◌, ◌%◌, ◌≤◌, ◌<◌}
 use native.Mathlib.Nat.{add-zero, mod-lt, mod-eq_of_lt, mod-add-mod, mul-le-mul, mul-le-mul_right, suc-mul}
 use native.Mathlib.Omega.{arith}
 use lib.IntN.{pos}
 use lib.Ieee.{Float}
-use lib.ListN.{length, get_or, set}
+use borrow.Author.Tests.{eqb-true, eqb-false, ltb-true, ltb-false}
+use borrow.Rule.Slice.PartMut.{put_mid}
+use mathlib.Core.Bool.{Bool, true, false}
+use lib.Dec.{eqb, ltb}
+use lib.ListN.{length, get_or, set, length-set}
+use lib.Seq.{get_or-set_same, get_or-set_other}
 use Rattle.aec3_common.specs.Lists.{tab}
-use Rattle.aec3_common.proofs.Tables.{length-tab, get_or-tab, Stored, stored_more, stored-all}
-use Rattle.section_echoes.proofs.Tables.{stored-begun}
+use Rattle.aec3_common.proofs.Tables.{length-tab, get_or-tab, tab-is}
+use Rattle.section_echoes.proofs.Tables.{ended-long, ended-below, ended_at}
 use Rattle.spectrum_buffer.specs.Ring.{next_place, offset_place, max_slots}
 use Rattle.spectrum_buffer.proofs.Walks.{places-on, place-on}
 use Rattle.section_echoes.specs.declared.RenderRing.{RenderRing}
@@ -61,49 +66,86 @@ walked_next slots position headroom block h =
 abbrev pub position_of : RenderRing → ℕ → ℕ → ℕ
 position_of ring headroom block = walked_place ring.slots ring.position headroom block * slot_length ring.channels
 
--- the loop is at a block: it stands at the place of the block before, and the blocks before have their positions
-pub record Walking (ring : RenderRing) (headroom : ℕ) (xs : List ℕ) (place : ℕ) (r : List ℕ) (block : ℕ) : Type 0 where
-  pub after : headroom < block
-  pub here : place ≡ walked_place ring.slots ring.position headroom (block - 1)
-  pub stored : Stored max_filter_length_blocks 0 0 max_filter_length_blocks (position_of ring headroom) xs r block
+-- so many blocks behind the headroom have their positions: the walk stands at the place of the last of them
+pub record Walking (ring : RenderRing) (headroom place : ℕ) (behind : List ℕ) (n : ℕ) : Type 0 where
+  pub here : place ≡ walked_place ring.slots ring.position headroom (headroom + n)
+  pub long : length behind ≡ max_filter_length_blocks - (headroom + 1)
+  pub done : (j : ℕ) → j < n → get_or behind j 0 ≡ position_of ring headroom (headroom + 1 + j)
 
 module _ (ring : RenderRing) (headroom : ℕ) where
   pub walking-begun :
-      (place : ℕ) → place ≡ offset_place ring.slots ring.position (pos headroom) → headroom < max_filter_length_blocks
-      → Walking ring headroom (tab max_filter_length_blocks (λ j. place * slot_length ring.channels)) place (tab max_filter_length_blocks (λ j. place * slot_length ring.channels)) (headroom + 1)
-  walking-begun place at few =
-      record {
-        after = omega arith;
-        here = at ∙ walked-first ring.slots ring.position headroom (headroom + 1 - 1) (omega arith);
-        stored =
-            stored-begun 0 max_filter_length_blocks (position_of ring headroom) (tab max_filter_length_blocks (λ j. place * slot_length ring.channels)) (headroom + 1) (omega arith)
-            (length-tab max_filter_length_blocks (λ j. place * slot_length ring.channels))
-            (λ j b.
-            get_or-tab max_filter_length_blocks (λ i. place * slot_length ring.channels) j 0 (omega arith)
-            ∙ ap (λ (p : ℕ). p * slot_length ring.channels) (at ∙ walked-first ring.slots ring.position headroom j (omega arith)));
-      }
+      (place : ℕ) {behind : List ℕ} → place ≡ offset_place ring.slots ring.position (pos headroom)
+      → length behind ≡ max_filter_length_blocks - (headroom + 1) → Walking ring headroom place behind 0
+  walking-begun place at long =
+      record { here = at ∙ walked-first ring.slots ring.position headroom (headroom + 0) (omega arith); long = long; done = λ j h. absurd (omega arith) }
 
-  module _ {xs r : List ℕ} {place block : ℕ} (w : Walking ring headroom xs place r block) where
-    -- the next place is the block's
-    pub walking_on : (next : ℕ) → next ≡ next_place ring.slots place → next ≡ walked_place ring.slots ring.position headroom block
-    walking_on next e = e ∙ ap (next_place ring.slots) w.here ∙ walked_next ring.slots ring.position headroom block w.after
+  module _ {behind : List ℕ} {place n : ℕ} (w : Walking ring headroom place behind n) where
+    -- the next place is the next block's
+    pub walking_on : (next : ℕ) → next ≡ next_place ring.slots place → next ≡ walked_place ring.slots ring.position headroom (headroom + 1 + n)
+    walking_on next e =
+        let before : headroom + n ≡ headroom + 1 + n - 1 = omega arith in
+        e
+        ∙ ap (next_place ring.slots) (w.here ∙ ap (walked_place ring.slots ring.position headroom) before)
+        ∙ walked_next ring.slots ring.position headroom (headroom + 1 + n) (omega arith)
 
     pub walking-more :
-        (next : ℕ) → next ≡ next_place ring.slots place → block < max_filter_length_blocks
-        → Walking ring headroom xs next (set r block (next * slot_length ring.channels)) (block + 1)
+        (next : ℕ) → next ≡ next_place ring.slots place → n < length behind
+        → Walking ring headroom next (set behind n (next * slot_length ring.channels)) (n + 1)
     walking-more next e h =
-        let here : block ≡ block + 1 - 1 = omega arith in
         record {
-          after = omega (arith, w.after);
-          here = walking_on next e ∙ ap (walked_place ring.slots ring.position headroom) here;
-          stored =
-              stored_more (next * slot_length ring.channels) w.stored h (omega arith)
-              (ap (λ (p : ℕ). p * slot_length ring.channels) (walking_on next e));
+          here = walking_on next e ∙ ap (walked_place ring.slots ring.position headroom) last;
+          long = length-set behind n position ∙ w.long;
+          done = λ j b. at j (eqb j n) refl b;
         }
+      where
+        position : ℕ
+        position = next * slot_length ring.channels
 
-    pub walking-over : max_filter_length_blocks ≤ block → r ≡ walked_positions ring headroom
+        last : headroom + 1 + n ≡ headroom + (n + 1)
+        last = omega arith
+
+        at : (j : ℕ) (t : Bool) → eqb j n ≡ t → j < n + 1 → get_or (set behind n position) j 0 ≡ position_of ring headroom (headroom + 1 + j)
+        at j true q b =
+            let same : n ≡ j = omega (arith, eqb-true j n q) in
+            ap (λ (i : ℕ). get_or (set behind n position) i 0) (sym same)
+            ∙ get_or-set_same behind n position 0 h
+            ∙ ap (λ (p : ℕ). p * slot_length ring.channels) (walking_on next e)
+            ∙ ap (λ (i : ℕ). position_of ring headroom (headroom + 1 + i)) same
+        at j false q b =
+            get_or-set_other behind n j position 0 (λ same. eqb-false j n q same)
+            ∙ w.done j (omega (arith, eqb-false j n q))
+
+    pub walking-over :
+        (first : ℕ) → first ≡ offset_place ring.slots ring.position (pos headroom) → headroom < max_filter_length_blocks → length behind ≤ n
+        → put_mid (headroom + 1) (max_filter_length_blocks - (headroom + 1)) (tab max_filter_length_blocks (λ j. first * slot_length ring.channels)) behind
+        ≡ walked_positions ring headroom
     unfolding walked_positions
-    walking-over h = stored-all w.stored h
+    walking-over first at few over =
+        tab-is max_filter_length_blocks 0 (position_of ring headroom) all
+        (ended-long (headroom + 1) max_filter_length_blocks before behind (omega arith) long w.long)
+        (λ j b. entry j b (ltb j (headroom + 1)) refl)
+      where
+        before : List ℕ
+        before = tab max_filter_length_blocks (λ j. first * slot_length ring.channels)
+
+        long : length before ≡ max_filter_length_blocks
+        long = length-tab max_filter_length_blocks (λ j. first * slot_length ring.channels)
+
+        all : List ℕ
+        all = put_mid (headroom + 1) (max_filter_length_blocks - (headroom + 1)) before behind
+
+        entry : (j : ℕ) → j < max_filter_length_blocks → (t : Bool) → ltb j (headroom + 1) ≡ t → get_or all j 0 ≡ position_of ring headroom j
+        entry j b true q =
+            let under : j < headroom + 1 = ltb-true j (headroom + 1) q in
+            ended-below (headroom + 1) max_filter_length_blocks before behind (omega arith) long w.long j 0 under
+            ∙ get_or-tab max_filter_length_blocks (λ i. first * slot_length ring.channels) j 0 b
+            ∙ ap (λ (p : ℕ). p * slot_length ring.channels) (at ∙ walked-first ring.slots ring.position headroom j (omega arith))
+        entry j b false q =
+            let from : headroom + 1 ≤ j = ltb-false j (headroom + 1) q in
+            let here : headroom + 1 + (j - (headroom + 1)) ≡ j = omega arith in
+            ended_at (headroom + 1) max_filter_length_blocks before behind (omega arith) long w.long j 0 from b
+            ∙ w.done (j - (headroom + 1)) (omega (arith, w.long))
+            ∙ ap (position_of ring headroom) here
 
 -- ---- in the spectra
 

@@ -57,11 +57,6 @@ pub record RingFits (ring : RenderRing) (spectra : List Float) : Type 0 where
   pub place : ring.position < ring.slots
   pub long : length spectra ≡ ring.slots * slot_length ring.channels
 
--- and responses: so many blocks of 65, not more than the longest filter
-pub record ResponsesFit (count : ℕ) (responses : List Float) : Type 0 where
-  pub few : count ≤ max_filter_length_blocks
-  pub long : length responses ≡ count * 65
-
 -- the active sections of each channel that has a count of responses; zeros behind them
 unfoldable pub all_active : RenderRing → List Float → ℕ → List ℕ → ℕ → List ℕ → List Float → List (List ℕ)
 all_active ring spectra headroom boundaries sections counts responses =

@@ -51,7 +51,7 @@ pub fn all_active_sections(
         let (own, later) = rest.split_at(count * 65);
         rest = later;
         let echoes = echo_sums(&sums, own, plan);
-        r[ch] = active_sections(&echoes, plan.num_sections);
+        r[ch] = active_sections(&echoes[..plan.num_sections]);
     }
     r
 }

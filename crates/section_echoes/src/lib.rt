@@ -21,7 +21,7 @@ pub struct RenderRing {
     pub position: usize,
 }
 
-// A ring with its spectra.
+// A ring with its spectra, as a caller lends it. It is lent before it is judged, so that no field here can say that it fits: who walks it asks.
 #[derive(Clone, Copy, Debug)]
 pub struct RenderBuffer<'a> {
     pub ring: RenderRing,
@@ -29,7 +29,7 @@ pub struct RenderBuffer<'a> {
 }
 
 // The responses of the adaptive filter: how many blocks each capture channel has, and the responses of all, channel by channel and
-// block by block, 65 numbers each.
+// block by block, 65 numbers each. A call lends both lists, and is turned away by 5 where they do not fit each other.
 #[derive(Clone, Copy, Debug)]
 pub struct FilterResponses<'a> {
     pub blocks: &'a [usize],

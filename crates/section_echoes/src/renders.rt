@@ -26,12 +26,11 @@ struct RingWalk<'a> {
 impl RingWalk<'_> {
     // A share of the power of each channel added to the sums, in the slot that begins at a position.
     fn add_slot(&self, sums: &mut [f32; 65], position: usize)
-        requires { (length sums.old ≡ 65) × (position + self.now.ring.channels * 65 ≤ length self.now.spectra.now) }
+        requires { position + self.now.ring.channels * 65 ≤ length self.now.spectra.now }
         ensures { sums.new ≡ with_slot self.now.spectra.now position self.now.ring.channels self.now.share sums.old }
     {
-        for ch in 0..self.ring.channels {
-            let from = position + ch * 65;
-            let powers = &self.spectra[from..from + 65];
+        let slot = &self.spectra[position..position + self.ring.channels * 65];
+        for powers in slot.as_chunks::<65>().0 {
             change(sums, 0, 65, |k, sum| sum + powers[k] * self.share);
         }
     }
@@ -42,8 +41,8 @@ impl RingWalk<'_> {
         ensures { result ≡ bands (render_sum self.now.ring self.now.spectra.now self.now.headroom from (to - from)) }
     {
         let mut sums = [0.0; 65];
-        for block in from..to {
-            self.add_slot(&mut sums, self.positions[block]);
+        for &position in &self.positions[from.min(to)..to] {
+            self.add_slot(&mut sums, position);
         }
         sums
     }
@@ -64,6 +63,7 @@ pub fn render_sums(render: &RenderBuffer, plan: &SectionPlan, count: usize) -> [
         share: 1.0 / rounded(ring.channels as u32),
     };
     let mut r = [[0.0; 65]; 8];
+    // Only the first sections have sums: `array::from_fn` would need a branch for the places behind them, and a clause of its closure on count.
     for s in 0..plan.num_sections {
         r[s] = walk.section_render(plan.boundaries[s], plan.boundaries[s + 1].min(count));
     }

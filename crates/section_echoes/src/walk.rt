@@ -17,9 +17,9 @@ pub fn walked_positions(ring: RenderRing, headroom: usize) -> [usize; MAX_FILTER
     let slot_length = ring.channels * 65;
     let mut place = offset_place(ring.slots, ring.position, headroom as isize);
     let mut r = [place * slot_length; MAX_FILTER_LENGTH_BLOCKS];
-    for block in headroom + 1..MAX_FILTER_LENGTH_BLOCKS {
+    for position in &mut r[headroom + 1..] {
         place = next_place(ring.slots, place);
-        r[block] = place * slot_length;
+        *position = place * slot_length;
     }
     r
 }

@@ -6,7 +6,6 @@ use Prim.Native.Nat.{ℕ}
 use lib.Ieee.{Float}
 use Rattle.aec3_common.proofs.Choices.{cond-by}
 use Rattle.correction_factors.specs.declared.CorrectionFactors.{CorrectionFactors}
-use Rattle.aec3_common.specs.declared.settings.ErleLimits.{ErleLimits}
 use Rattle.correction_factors.specs.Steps.{factors_of, corrected_by}
 use Rattle.correction_factors.specs.Streams.{corrected, last_copied}
 use Rattle.correction_factors.proofs.Corrected.{corrected-is}
@@ -18,17 +17,16 @@ module _
     (g : SignalDependentSettings) (active : List ℕ) (renders : List Float) (l : Lent) (c : SignalDependentChannel)
     {learning : CorrectionFactors} (learns : learning ≡ learnt_if g active renders l.converged l.capture l.residual c.corrections)
     {factors : List Float} (chooses : factors ≡ factors_of learning.correction_factors active)
-    {limits : ErleLimits} (limited : limits ≡ record { min = g.min; max_l = g.max_l; max_h = g.max_h })
   where
     -- a stream, corrected
     stream-is :
         {stream : List Float} (average : List Float)
-        → stream ≡ last_copied (corrected_by limits.min limits.max_l limits.max_h factors average)
-        → stream ≡ corrected g.min g.max_l g.max_h (learnt_if g active renders l.converged l.capture l.residual c.corrections).correction_factors active average
-    stream-is average e = e ∙ rw (limited, chooses, learns) (corrected-is g.min g.max_l g.max_h _ active average)
+        → stream ≡ last_copied (corrected_by g.limits.min g.limits.max_l g.limits.max_h factors average)
+        → stream ≡ corrected g.limits.min g.limits.max_l g.limits.max_h (learnt_if g active renders l.converged l.capture l.residual c.corrections).correction_factors active average
+    stream-is average e = e ∙ rw (chooses, learns) (corrected-is g.limits.min g.limits.max_l g.limits.max_h _ active average)
 
     module _
-        {plain : List Float} (corrects : plain ≡ last_copied (corrected_by limits.min limits.max_l limits.max_h factors l.average))
+        {plain : List Float} (corrects : plain ≡ last_copied (corrected_by g.limits.min g.limits.max_l g.limits.max_h factors l.average))
         {compensated : List Float}
       where
         -- the record, once the compensated stream is what it shall be
@@ -48,7 +46,7 @@ module _
 
         pub after_on :
             g.onset_detection ≡ true
-            → compensated ≡ last_copied (corrected_by limits.min limits.max_l limits.max_h factors l.average_compensated)
+            → compensated ≡ last_copied (corrected_by g.limits.min g.limits.max_l g.limits.max_h factors l.average_compensated)
             → ◌≡◌ {A = SignalDependentChannel}
             (record { erle = plain; erle_onset_compensated = compensated; corrections = learning; n_active_sections = active })
             (channel_after g active renders l c)

@@ -37,13 +37,13 @@ use Rattle.signal_dependent_erle_estimator.proofs.Judged.{one-of-eight}
 -- a stream of 65 bands, each within its limits
 pub record StreamKept (g : SignalDependentSettings) (stream : List Float) : Type 0 where
   pub long : length stream ≡ 65
-  pub bands : (k : ℕ) → k < 65 → Between g.min (max_erle g.max_l g.max_h k) (get_or stream k nan)
+  pub bands : (k : ℕ) → k < 65 → Between g.limits.min (max_erle g.limits.max_l g.limits.max_h k) (get_or stream k nan)
 
 pub record ChannelKept (g : SignalDependentSettings) (c : SignalDependentChannel) : Type 0 where
-  pub sections : channel_ok g.num_sections c ≡ true
+  pub sections : channel_ok g.layout.num_sections c ≡ true
   pub plain : StreamKept g c.erle
   pub compensated : StreamKept g c.erle_onset_compensated
-  pub learnt : LearntKept g.min g.max_l g.max_h c.corrections
+  pub learnt : LearntKept g.limits.min g.limits.max_l g.limits.max_h c.corrections
 
 -- a spectrum of values from 0 to 2^100
 pub record SpectrumOk (spectrum : List Float) : Type 0 where
@@ -62,52 +62,52 @@ pub record LentOk (l : Lent) : Type 0 where
   pub average : SpectrumOk l.average
   pub compensated : SpectrumOk l.average_compensated
 
-module _ (g : SignalDependentSettings) (some : 1 ≤ g.num_sections) (few : g.num_sections ≤ 8) (limits : AllInOrder g.min g.max_l g.max_h) where
-  pub fresh_kept : ChannelKept g (fresh_channel g.min)
+module _ (g : SignalDependentSettings) (some : 1 ≤ g.layout.num_sections) (few : g.layout.num_sections ≤ 8) (limits : AllInOrder g.limits.min g.limits.max_l g.limits.max_h) where
+  pub fresh_kept : ChannelKept g (fresh_channel g.limits.min)
   unfolding channel_ok fresh_channel
   fresh_kept =
       record {
         sections =
-            list_all-by (λ n. ltb n g.num_sections) (tab 65 (λ k. 0)) 0
+            list_all-by (λ n. ltb n g.layout.num_sections) (tab 65 (λ k. 0)) 0
             (λ k h.
             let b : k < 65 = omega (arith, length-tab {A = ℕ} 65 (λ j. 0)) in
-            rw (get_or-tab {A = ℕ} 65 (λ j. 0) k 0 b) (lt-ltb 0 g.num_sections some));
+            rw (get_or-tab {A = ℕ} 65 (λ j. 0) k 0 b) (lt-ltb 0 g.layout.num_sections some));
         plain = least;
         compensated = least;
-        learnt = fresh-kept g.min g.max_l g.max_h limits;
+        learnt = fresh-kept g.limits.min g.limits.max_l g.limits.max_h limits;
       }
     where
-      least : StreamKept g (tab 65 (λ k. g.min))
+      least : StreamKept g (tab 65 (λ k. g.limits.min))
       least =
           record {
             long = length-tab 65 _;
-            bands = λ k h. subst (Between g.min (max_erle g.max_l g.max_h k)) (sym (get_or-tab 65 (λ k. g.min) k nan h)) (min-between (limits k));
+            bands = λ k h. subst (Between g.limits.min (max_erle g.limits.max_l g.limits.max_h k)) (sym (get_or-tab 65 (λ k. g.limits.min) k nan h)) (min-between (limits k));
           }
 
   module _
-      (active : List ℕ) (below : list_all (λ n. ltb n g.num_sections) active ≡ true)
+      (active : List ℕ) (below : list_all (λ n. ltb n g.layout.num_sections) active ≡ true)
       (render : List Float) (l : Lent) (lent : LentOk l) (c : SignalDependentChannel) (kept : ChannelKept g c)
     where
       learning : CorrectionFactors
       learning = learnt_if g active (subband_sums render) l.converged l.capture l.residual c.corrections
 
-      learning-kept : LearntKept g.min g.max_l g.max_h learning
+      learning-kept : LearntKept g.limits.min g.limits.max_l g.limits.max_h learning
       unfolding learning learnt_if
       learning-kept =
-          cond_has (LearntKept g.min g.max_l g.max_h) l.converged
+          cond_has (LearntKept g.limits.min g.limits.max_l g.limits.max_h) l.converged
           (λ e.
-          learnt-kept g.min g.max_l g.max_h limits _
-          (lesson-plus g.num_sections active render l.capture l.residual lent.capture.long lent.capture.values)
+          learnt-kept g.limits.min g.limits.max_l g.limits.max_h limits _
+          (lesson-plus g.layout.num_sections active render l.capture l.residual lent.capture.long lent.capture.values)
           kept.learnt)
           (λ e. kept.learnt)
 
-      follow : (average : List Float) → SpectrumOk average → StreamKept g (corrected g.min g.max_l g.max_h learning.correction_factors active average)
+      follow : (average : List Float) → SpectrumOk average → StreamKept g (corrected g.limits.min g.limits.max_l g.limits.max_h learning.correction_factors active average)
       unfolding corrected
       follow average ok =
           record {
             long = length-tab 65 _;
             bands =
-                corrected-kept g.min g.max_l g.max_h limits learning-kept active average (λ k h. one-of-eight g.num_sections active few below k)
+                corrected-kept g.limits.min g.limits.max_l g.limits.max_h limits learning-kept active average (λ k h. one-of-eight g.layout.num_sections active few below k)
                 ok.long ok.values;
           }
 
@@ -118,8 +118,8 @@ module _ (g : SignalDependentSettings) (some : 1 ≤ g.num_sections) (few : g.nu
           record {
             long = length-tab _ _ ∙ s.long;
             bands = λ k h.
-                subst (Between g.min (max_erle g.max_l g.max_h k)) (sym (get_or-tab (length stream) (λ j. get_or stream (own_or_63 j) nan) k nan (omega (arith, s.long))))
-                (rw (← own-max g.max_l g.max_h k) (s.bands (own_or_63 k) (own-inside k h)));
+                subst (Between g.limits.min (max_erle g.limits.max_l g.limits.max_h k)) (sym (get_or-tab (length stream) (λ j. get_or stream (own_or_63 j) nan) k nan (omega (arith, s.long))))
+                (rw (← own-max g.limits.max_l g.limits.max_h k) (s.bands (own_or_63 k) (own-inside k h)));
           }
 
       pub after_kept : ChannelKept g (channel_after g active (subband_sums render) l c)
@@ -136,7 +136,7 @@ module _ (g : SignalDependentSettings) (some : 1 ≤ g.num_sections) (few : g.nu
           }
 
 pub channel-in-range :
-    {g : SignalDependentSettings} {c : SignalDependentChannel} → AllInOrder g.min g.max_l g.max_h → ChannelKept g c → ChannelInRange g c
+    {g : SignalDependentSettings} {c : SignalDependentChannel} → AllInOrder g.limits.min g.limits.max_l g.limits.max_h → ChannelKept g c → ChannelInRange g c
 channel-in-range limits kept =
     record {
       plain = λ k h. number-from (kept.plain.bands k h);

@@ -33,32 +33,32 @@ module _ (g : SignalDependentSettings) (ok : settings_refusal g ≡ accepted) wh
   pub few-captures : g.num_capture_channels ≤ 4
   unfolding settings_refusal
   few-captures =
-      few-channels g.min g.max_l g.max_h g.num_capture_channels
-      (first-passed g.min g.max_l g.max_h g.num_capture_channels g.num_sections g.filter_length_blocks g.delay_headroom_samples ok)
+      few-channels g.limits.min g.limits.max_l g.limits.max_h g.num_capture_channels
+      (first-passed g.limits.min g.limits.max_l g.limits.max_h g.num_capture_channels g.layout.num_sections g.layout.filter_length_blocks g.layout.delay_headroom_samples ok)
 
-  three-passed : sections_ok g.num_sections g.filter_length_blocks g.delay_headroom_samples ≡ true
+  three-passed : sections_ok g.layout.num_sections g.layout.filter_length_blocks g.layout.delay_headroom_samples ≡ true
   unfolding settings_refusal
   three-passed =
-      sections-passed g.min g.max_l g.max_h g.num_capture_channels g.num_sections g.filter_length_blocks g.delay_headroom_samples ok
+      sections-passed g.limits.min g.limits.max_l g.limits.max_h g.num_capture_channels g.layout.num_sections g.layout.filter_length_blocks g.layout.delay_headroom_samples ok
 
-  in-ranges : ranges_ok g.num_sections g.filter_length_blocks g.delay_headroom_samples ≡ true
-  in-ranges = sections-in-ranges g.num_sections g.filter_length_blocks g.delay_headroom_samples three-passed
+  in-ranges : ranges_ok g.layout.num_sections g.layout.filter_length_blocks g.layout.delay_headroom_samples ≡ true
+  in-ranges = sections-in-ranges g.layout.num_sections g.layout.filter_length_blocks g.layout.delay_headroom_samples three-passed
 
-  pub one-section : 1 ≤ g.num_sections
-  one-section = some-sections g.num_sections g.filter_length_blocks g.delay_headroom_samples in-ranges
+  pub one-section : 1 ≤ g.layout.num_sections
+  one-section = some-sections g.layout.num_sections g.layout.filter_length_blocks g.layout.delay_headroom_samples in-ranges
 
-  pub eight-sections : g.num_sections ≤ 8
-  eight-sections = few-sections g.num_sections g.filter_length_blocks g.delay_headroom_samples in-ranges
+  pub eight-sections : g.layout.num_sections ≤ 8
+  eight-sections = few-sections g.layout.num_sections g.layout.filter_length_blocks g.layout.delay_headroom_samples in-ranges
 
-  pub filter-within : g.filter_length_blocks ≤ max_filter_length_blocks
-  filter-within = short-filter g.num_sections g.filter_length_blocks g.delay_headroom_samples in-ranges
+  pub filter-within : g.layout.filter_length_blocks ≤ max_filter_length_blocks
+  filter-within = short-filter g.layout.num_sections g.layout.filter_length_blocks g.layout.delay_headroom_samples in-ranges
 
   -- with two sections or more the headroom leaves room in the filter
-  pub headroom-inside : 2 ≤ g.num_sections → headroom_blocks g.delay_headroom_samples < max_filter_length_blocks
+  pub headroom-inside : 2 ≤ g.layout.num_sections → headroom_blocks g.layout.delay_headroom_samples < max_filter_length_blocks
   headroom-inside many =
       omega (
         arith,
-        room-for-sections g.num_sections g.filter_length_blocks g.delay_headroom_samples three-passed many,
+        room-for-sections g.layout.num_sections g.layout.filter_length_blocks g.layout.delay_headroom_samples three-passed many,
         filter-within,
       )
 
@@ -103,7 +103,7 @@ pub all-judged :
     → refusal_by passes20 g u lengths values ≡ accepted → Judged passes20 g u lengths values
 all-judged passes20 g u lengths values e =
     let same = eqb u.channels g.num_capture_channels in
-    let headroom = headroom_blocks g.delay_headroom_samples in
+    let headroom = headroom_blocks g.layout.delay_headroom_samples in
     let ring = ring_refusal headroom u.ring in
     let after-ring = unless lengths 5 values in
     let after_same = first_of ring after-ring in
@@ -121,10 +121,10 @@ all-judged passes20 g u lengths values e =
 -- what is lent has the length that is asked
 pub lent-passed :
     (g : SignalDependentSettings) (u : Update) → settings_refusal g ≡ accepted → u.channels ≡ g.num_capture_channels → RingPassed u.ring
-    → lent_lengths_ok g.filter_length_blocks u ≡ true → Passed g u
+    → lent_lengths_ok g.layout.filter_length_blocks u ≡ true → Passed g u
 unfolding lent_lengths_ok responses_ok
 lent-passed g u settings count ring long =
-    let most = g.filter_length_blocks in
+    let most = g.layout.filter_length_blocks in
     let first = lengths_ok u.channels u.converged u.render u.capture u.residual in
     let spectra = eqb (length u.spectra) (u.ring.slots * slot_length u.ring.channels) in
     let responses = responses_ok u.channels most u.counts u.responses in
@@ -171,7 +171,7 @@ pub update-passed :
     → update_refusal s u average average_compensated ≡ accepted → UpdatePassed s u average average_compensated
 unfolding update_refusal refusal_of all_lengths_ok
 update-passed s u average average_compensated e =
-    let most = s.settings.filter_length_blocks in
+    let most = s.settings.layout.filter_length_blocks in
     let long = all_lengths_ok most u average average_compensated in
     let all = lent_values u ++ average ++ average_compensated in
     let judged = all-judged (state_ok s) s.settings u long (value_refusal all) e in
@@ -201,7 +201,7 @@ pub refusal-not-20 :
     → (values ≡ bad_state → ⊥) → refusal_by true g u lengths values ≡ bad_state → ⊥
 unfolding ring_refusal
 refusal-not-20 g u lengths values last =
-    let headroom = headroom_blocks g.delay_headroom_samples in
+    let headroom = headroom_blocks g.layout.delay_headroom_samples in
     let after-ring : unless lengths 5 values ≡ 20 → ⊥ = chain-not-20 lengths 5 values (λ e. omega arith) last in
     let place = place_ok u.ring.slots u.ring.position in
     let reach = slots_reach u.ring.slots headroom in

@@ -40,17 +40,17 @@ same-as-itself (suc n) xs = simp (same-as-itself n xs, eq-eqb (get_or xs n 0) (g
 -- settings that pass, of values of binary32
 pub record SettingsOk (g : SignalDependentSettings) : Type 0 where
   pub passed : settings_refusal g ≡ accepted
-  pub limits : AllInOrder g.min g.max_l g.max_h
+  pub limits : AllInOrder g.limits.min g.limits.max_l g.limits.max_h
 
-pub settings-ok : (g : SignalDependentSettings) → InBinary32 g.min g.max_l g.max_h → settings_refusal g ≡ accepted → SettingsOk g
+pub settings-ok : (g : SignalDependentSettings) → InBinary32 g.limits.min g.limits.max_l g.limits.max_h → settings_refusal g ≡ accepted → SettingsOk g
 unfolding settings_refusal
 settings-ok g held passed =
     record {
       passed = passed;
       limits =
-          all-in-order g.min g.max_l g.max_h held
-          (limits-passed g.min g.max_l g.max_h g.num_capture_channels
-          (first-passed g.min g.max_l g.max_h g.num_capture_channels g.num_sections g.filter_length_blocks g.delay_headroom_samples passed));
+          all-in-order g.limits.min g.limits.max_l g.limits.max_h held
+          (limits-passed g.limits.min g.limits.max_l g.limits.max_h g.num_capture_channels
+          (first-passed g.limits.min g.limits.max_l g.limits.max_h g.num_capture_channels g.layout.num_sections g.layout.filter_length_blocks g.layout.delay_headroom_samples passed));
     }
 
 -- the settings of the start and their boundaries, and what each channel keeps
@@ -90,13 +90,13 @@ module _ (g : SignalDependentSettings) (ok : SettingsOk g) where
         settings = refl;
         boundaries = refl;
         channels = λ ch h.
-            subst (ChannelKept g) (sym (get_or-tab 4 (λ c. fresh_channel g.min) ch no_channel (omega (arith, few-captures g ok.passed))))
+            subst (ChannelKept g) (sym (get_or-tab 4 (λ c. fresh_channel g.limits.min) ch no_channel (omega (arith, few-captures g ok.passed))))
             (fresh_kept g (one-section g ok.passed) (eight-sections g ok.passed) ok.limits);
       }
 
   pub updated-kept :
       (s : SignalDependentErleEstimator) (p : Powers) (active : ℕ → List ℕ) (average average_compensated : ℕ → List Float)
-      → Kept g s → SectionsBelow g.num_sections g.num_capture_channels active → AllLentOk g.num_capture_channels p average average_compensated
+      → Kept g s → SectionsBelow g.layout.num_sections g.num_capture_channels active → AllLentOk g.num_capture_channels p average average_compensated
       → Kept g (updated s p active average average_compensated)
   unfolding updated
   updated-kept s p active average average_compensated kept below lent =
@@ -117,9 +117,9 @@ module _ (g : SignalDependentSettings) (ok : SettingsOk g) where
       }
 
   -- the sections that are found are below the section count
-  pub found-below : (s : SignalDependentErleEstimator) (u : Update) → Kept g s → SectionsBelow g.num_sections g.num_capture_channels (active_of s u)
+  pub found-below : (s : SignalDependentErleEstimator) (u : Update) → Kept g s → SectionsBelow g.layout.num_sections g.num_capture_channels (active_of s u)
   found-below s u kept ch h =
-      let sections = ap (λ (h : SignalDependentSettings). h.num_sections) kept.settings in
+      let sections = ap (λ (h : SignalDependentSettings). h.layout.num_sections) kept.settings in
       subst (λ (m : ℕ). list_all (λ n. ltb n m) (active_of s u ch) ≡ true) sections (active-within s u ch (omega (arith, sections, one-section g ok.passed)))
 
   answer-kept : (s : SignalDependentErleEstimator) (c : Call) → Kept g s → Kept g (answer s c).state
@@ -127,7 +127,7 @@ module _ (g : SignalDependentSettings) (ok : SettingsOk g) where
   answer-kept s (update u average average_compensated) kept =
       cond_has (Kept g) (eqb (update_refusal s u average average_compensated) accepted)
       (λ e.
-      cond_has (Kept g) (ltb 1 s.settings.num_sections)
+      cond_has (Kept g) (ltb 1 s.settings.layout.num_sections)
       (λ q. updated-kept s (powers_of u) (active_of s u) (part average) (part average_compensated) kept (found-below s u kept) (rw kept.settings at (all-lent-ok s u average average_compensated (eqb-true _ accepted e))))
       (λ q. kept))
       (λ e. kept)
@@ -142,8 +142,8 @@ module _ (g : SignalDependentSettings) (ok : SettingsOk g) where
   state-ok s kept =
       rw (kept.settings, kept.boundaries, ok.passed)
       (simp (
-        same-as-itself (suc g.num_sections) (boundaries_of g),
-        list_all_first (channel_ok g.num_sections) g.num_capture_channels s.channels no_channel (λ ch h. (kept.channels ch h).sections),
+        same-as-itself (suc g.layout.num_sections) (boundaries_of g),
+        list_all_first (channel_ok g.layout.num_sections) g.num_capture_channels s.channels no_channel (λ ch h. (kept.channels ch h).sections),
       ))
 
 -- ---- never refused under 20

@@ -1,18 +1,20 @@
--- The loop over the channels in an update.
-use mathlib.Core.Path.{◌≡◌, refl, ap, ◌∙◌}
+-- The channels of an update: their active sections, and the records that it leaves.
+use mathlib.Core.Path.{◌≡◌, ap, ◌∙◌}
 use mathlib.Core.Bool.{true}
 use mathlib.Core.List.{List, []}
-use Prim.Native.Nat.{ℕ, ◌+◌, ◌≤◌, ◌<◌}
+use Prim.Native.Nat.{ℕ, ◌≤◌, ◌<◌}
 use native.Mathlib.Omega.{arith}
 use borrow.Author.Tests.{lt-ltb, ltb-true}
 use lib.Dec.{ltb}
 use lib.Ieee.{Float}
-use lib.ListN.{length, get_or, set}
+use lib.ListN.{length, get_or}
 use Rattle.std.specs.List.{list_all}
 use Rattle.aec3_common.specs.Settings.{headroom_blocks, max_filter_length_blocks}
+use Rattle.aec3_common.specs.Steps.{Changed}
+use Rattle.aec3_common.proofs.Changes.{changed-firsts}
 use Rattle.aec3_common.proofs.Choices.{cond_same}
 use Rattle.aec3_common.proofs.Every.{list_all-by}
-use Rattle.aec3_common.proofs.Tables.{Stored, length-tab, get_or-tab, get_or-tab-first, tab-same, stored_more, stored-firsts}
+use Rattle.aec3_common.proofs.Tables.{length-tab, get_or-tab, get_or-tab-first, tab-same}
 use Rattle.section_echoes.specs.Echoes.{active_section, active_sections, echo_sum, section_echo}
 use Rattle.section_echoes.specs.Packed.{responses_of}
 use Rattle.section_echoes.specs.Steps.{bands, all_active}
@@ -21,7 +23,7 @@ use Rattle.correction_factors.specs.Factors.{subband_sums}
 use Rattle.signal_dependent_erle_estimator.specs.declared.settings.SignalDependentSettings.{SignalDependentSettings}
 use Rattle.signal_dependent_erle_estimator.specs.declared.channel.SignalDependentChannel.{SignalDependentChannel}
 use Rattle.signal_dependent_erle_estimator.specs.declared.SignalDependentErleEstimator.{SignalDependentErleEstimator}
-use Rattle.signal_dependent_erle_estimator.specs.Channel.{Lent, channel_after}
+use Rattle.signal_dependent_erle_estimator.specs.Channel.{channel_after}
 use Rattle.signal_dependent_erle_estimator.specs.SignalDependent.{Update, Powers, no_channel, channel_at, sections_found, active_of, lent_to, updated, after_block}
 use Rattle.signal_dependent_erle_estimator.specs.Steps.{Passed}
 use Rattle.signal_dependent_erle_estimator.proofs.Judged.{few-captures, one-section, eight-sections, headroom-inside}
@@ -30,22 +32,22 @@ use Rattle.signal_dependent_erle_estimator.proofs.Judged.{few-captures, one-sect
 abbrev active_in : SignalDependentErleEstimator → Update → ℕ → ℕ → ℕ
 active_in s u ch k =
     let g = s.settings in
-    let headroom = headroom_blocks g.delay_headroom_samples in
+    let headroom = headroom_blocks g.layout.delay_headroom_samples in
     let boundaries = s.section_boundaries_blocks in
     let count = get_or u.counts ch 0 in
-    active_section g.num_sections
+    active_section g.layout.num_sections
     (echo_sum (λ t. section_echo u.ring u.spectra headroom boundaries count (responses_of u.counts u.responses ch) t k))
 
 -- each is one of the sections
 pub active-within :
-    (s : SignalDependentErleEstimator) (u : Update) (ch : ℕ) → 1 ≤ s.settings.num_sections
-    → list_all (λ n. ltb n s.settings.num_sections) (active_of s u ch) ≡ true
+    (s : SignalDependentErleEstimator) (u : Update) (ch : ℕ) → 1 ≤ s.settings.layout.num_sections
+    → list_all (λ n. ltb n s.settings.layout.num_sections) (active_of s u ch) ≡ true
 unfolding sections_found active_sections
 active-within s u ch some =
-    list_all-by (λ n. ltb n s.settings.num_sections) (active_of s u ch) 0
+    list_all-by (λ n. ltb n s.settings.layout.num_sections) (active_of s u ch) 0
     (λ k h.
     let b : k < 65 = omega (arith, length-tab 65 (active_in s u ch)) in
-    rw (get_or-tab 65 (active_in s u ch) k 0 b) (lt-ltb _ s.settings.num_sections (active-below s.settings.num_sections _ some)))
+    rw (get_or-tab 65 (active_in s u ch) k 0 b) (lt-ltb _ s.settings.layout.num_sections (active-below s.settings.layout.num_sections _ some)))
 
 -- An accepted update: what is asked of finding active sections, and what is found with two sections or more.
 module _ (s : SignalDependentErleEstimator) (u : Update) (ok : Passed s.settings u) where
@@ -55,82 +57,59 @@ module _ (s : SignalDependentErleEstimator) (u : Update) (ok : Passed s.settings
   few-counts : length u.counts ≤ 4
   few-counts = omega (arith, ok.counts, ok.count, few-captures g ok.state)
 
-  pub found-asks : (1 < g.num_sections → headroom_blocks g.delay_headroom_samples < max_filter_length_blocks) × (g.num_sections ≤ 8) × (length u.counts ≤ 4)
+  pub found-asks : (1 < g.layout.num_sections → headroom_blocks g.layout.delay_headroom_samples < max_filter_length_blocks) × (g.layout.num_sections ≤ 8) × (length u.counts ≤ 4)
   found-asks = (λ many. headroom-inside g ok.state many, eight-sections g ok.state, few-counts)
 
   module _
       {active : List (List ℕ)}
       (found :
-      1 < g.num_sections
-      → active ≡ all_active u.ring u.spectra (headroom_blocks g.delay_headroom_samples) s.section_boundaries_blocks g.num_sections u.counts u.responses)
+      1 < g.layout.num_sections
+      → active ≡ all_active u.ring u.spectra (headroom_blocks g.layout.delay_headroom_samples) s.section_boundaries_blocks g.layout.num_sections u.counts u.responses)
     where
-      pub found-at : 1 < g.num_sections → (ch : ℕ) → ch < u.channels → get_or active ch [] ≡ active_of s u ch
+      pub found-at : 1 < g.layout.num_sections → (ch : ℕ) → ch < u.channels → get_or active ch [] ≡ active_of s u ch
       unfolding sections_found all_active
       found-at many ch h =
           ap (λ (l : List (List ℕ)). get_or l ch []) (found many)
           ∙ get_or-tab-first 4 (length u.counts) _ (λ j. bands (λ k. 0)) ch [] few-counts (omega (arith, h, ok.counts))
 
-      pub found-within : 1 < g.num_sections → (ch : ℕ) → ch < u.channels → list_all (λ n. ltb n g.num_sections) (get_or active ch []) ≡ true
+      pub found-within : 1 < g.layout.num_sections → (ch : ℕ) → ch < u.channels → list_all (λ n. ltb n g.layout.num_sections) (get_or active ch []) ≡ true
       found-within many ch h = rw (found-at many ch h) (active-within s u ch (one-section g ok.state))
 
--- What the loop has done at ch: the records before it are updated, by the active sections that were found, the render sums and what
--- each channel is lent.
-pub record Updating
-    (s : SignalDependentErleEstimator) (active : List (List ℕ)) (renders : List Float) (lent : ℕ → Lent) (r : SignalDependentErleEstimator) (ch : ℕ)
-    : Type 0 where
-  pub settings : r.settings ≡ s.settings
-  pub boundaries : r.section_boundaries_blocks ≡ s.section_boundaries_blocks
-  pub stored :
-      Stored 4 no_channel 0 s.settings.num_capture_channels
-      (λ ch. channel_after s.settings (get_or active ch []) renders (lent ch) (channel_at s ch))
-      s.channels r.channels ch
-
+-- The records of a block that is accepted, each made of what it was.
 module _
-    {s : SignalDependentErleEstimator} {active : List (List ℕ)} {renders : List Float} {lent : ℕ → Lent}
-    {r : SignalDependentErleEstimator} {ch : ℕ} (t : Updating s active renders lent r ch)
+    (s : SignalDependentErleEstimator) (p : Powers) (active : ℕ → List ℕ) (average average_compensated : ℕ → List Float)
+    {R : ℕ → SignalDependentChannel → SignalDependentChannel → Type 0} {channels : List SignalDependentChannel}
+    (c : Changed R 0 s.settings.num_capture_channels s.channels channels) (long : length channels ≡ 4)
+    (made :
+    (k : ℕ) (x y : SignalDependentChannel) → k < s.settings.num_capture_channels → R k x y
+    → y ≡ channel_after s.settings (active k) (subband_sums p.render) (lent_to p average average_compensated k) x)
   where
-    -- one record more
-    pub updating-more :
-        {c : SignalDependentChannel} → ch < s.settings.num_capture_channels → s.settings.num_capture_channels ≤ 4
-        → c ≡ channel_after s.settings (get_or active ch []) renders (lent ch) (channel_at s ch)
-        → Updating s active renders lent
-        (record { settings = r.settings; section_boundaries_blocks = r.section_boundaries_blocks; channels = set r.channels ch c })
-        (ch + 1)
-    updating-more {c} h few e = record { settings = t.settings; boundaries = t.boundaries; stored = stored_more c t.stored h few e }
-
-    -- all records
-    pub updating-over :
-        (p : Powers) (average average_compensated : ℕ → List Float)
-        → s.settings.num_capture_channels ≤ ch
-        → renders ≡ subband_sums p.render → ((ch : ℕ) → lent ch ≡ lent_to p average average_compensated ch)
-        → r ≡ updated s p (λ ch. get_or active ch []) average average_compensated
+    pub made-updated : channels ≡ (updated s p active average average_compensated).channels
     unfolding updated
-    updating-over p average average_compensated over summed same =
-        λ i. record { settings = t.settings i; section_boundaries_blocks = t.boundaries i; channels = all i }
-      where
-        all : r.channels ≡ (updated s p (λ ch. get_or active ch []) average average_compensated).channels
-        all =
-            stored-firsts t.stored over
-            ∙ tab-same 4 no_channel _ _ (λ j b. cond_same (ltb j s.settings.num_capture_channels) (channel_at s j) (λ q. rw (summed, same j) refl))
+    made-updated =
+        changed-firsts no_channel
+        (λ k. channel_after s.settings (active k) (subband_sums p.render) (lent_to p average average_compensated k))
+        c long made
 
     -- and so is what a block leaves, with two sections or more
-    pub updating-done :
-        (p : Powers) (average average_compensated : ℕ → List Float)
-        → 1 < s.settings.num_sections → s.settings.num_capture_channels ≤ ch
-        → renders ≡ subband_sums p.render → ((ch : ℕ) → lent ch ≡ lent_to p average average_compensated ch)
-        → r ≡ after_block s p (λ ch. get_or active ch []) average average_compensated
-    unfolding after_block
-    updating-done p average average_compensated many over summed same =
-        rw (lt-ltb 1 s.settings.num_sections many) (updating-over p average average_compensated over summed same)
+    pub made-after :
+        1 < s.settings.layout.num_sections
+        → ◌≡◌ {A = SignalDependentErleEstimator}
+        (record { settings = s.settings; section_boundaries_blocks = s.section_boundaries_blocks; channels = channels })
+        (after_block s p active average average_compensated)
+    unfolding after_block updated
+    made-after many =
+        rw (lt-ltb 1 s.settings.layout.num_sections many)
+        (λ i. record { settings = s.settings; section_boundaries_blocks = s.section_boundaries_blocks; channels = made-updated i })
 
 -- Of the active sections only those of the state's channels count, and with one section none.
 pub block-alone :
     (s : SignalDependentErleEstimator) (p : Powers) {active other : ℕ → List ℕ} (average average_compensated : ℕ → List Float)
-    → (1 < s.settings.num_sections → (ch : ℕ) → ch < s.settings.num_capture_channels → active ch ≡ other ch)
+    → (1 < s.settings.layout.num_sections → (ch : ℕ) → ch < s.settings.num_capture_channels → active ch ≡ other ch)
     → after_block s p active average average_compensated ≡ after_block s p other average average_compensated
 unfolding after_block updated
 block-alone s p average average_compensated same =
-    cond_same (ltb 1 s.settings.num_sections) s
+    cond_same (ltb 1 s.settings.layout.num_sections) s
     (λ many i.
     record {
       settings = s.settings;
@@ -141,5 +120,5 @@ block-alone s p average average_compensated same =
           cond_same (ltb j s.settings.num_capture_channels) (channel_at s j)
           (λ q.
           ap (λ (l : List ℕ). channel_after s.settings l (subband_sums p.render) (lent_to p average average_compensated j) (channel_at s j))
-          (same (ltb-true 1 s.settings.num_sections many) j (ltb-true j s.settings.num_capture_channels q)))) i;
+          (same (ltb-true 1 s.settings.layout.num_sections many) j (ltb-true j s.settings.num_capture_channels q)))) i;
     })

@@ -44,8 +44,8 @@ lent_by own =
 unfoldable pub learnt_if : SignalDependentSettings → List ℕ → List Float → Bool → List Float → List Float → CorrectionFactors → CorrectionFactors
 learnt_if g active render_sums converged capture residual c =
     cond converged
-    (learnt g.min g.max_l g.max_h
-    (lesson_of g.num_sections active render_sums (subband_sums capture) (subband_sums residual))
+    (learnt g.limits.min g.limits.max_l g.limits.max_h
+    (lesson_of g.layout.num_sections active render_sums (subband_sums capture) (subband_sums residual))
     c)
     c
 
@@ -56,10 +56,10 @@ channel_after g active render_sums l c =
     let learning = learnt_if g active render_sums l.converged l.capture l.residual c.corrections in
     let factors = learning.correction_factors in
     record {
-      erle = corrected g.min g.max_l g.max_h factors active l.average;
+      erle = corrected g.limits.min g.limits.max_l g.limits.max_h factors active l.average;
       erle_onset_compensated =
           cond g.onset_detection
-          (corrected g.min g.max_l g.max_h factors active l.average_compensated)
+          (corrected g.limits.min g.limits.max_l g.limits.max_h factors active l.average_compensated)
           (last_copied c.erle_onset_compensated);
       corrections = learning;
       n_active_sections = active;

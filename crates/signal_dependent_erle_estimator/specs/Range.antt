@@ -13,9 +13,9 @@ use Rattle.signal_dependent_erle_estimator.specs.Runs.{Call, run}
 -- What a channel shows and what it has learnt: plain and compensated ERLE of every band are numbers, not below the minimum nor above the
 -- band's maximum; so are estimates and references, by their subbands, and the factors keep their range.
 pub record ChannelInRange (g : SignalDependentSettings) (c : SignalDependentChannel) : Type 0 where
-  pub plain : (k : ℕ) → k < 65 → number_from g.min (max_erle g.max_l g.max_h k) (get_or c.erle k nan) ≡ true
-  pub compensated : (k : ℕ) → k < 65 → number_from g.min (max_erle g.max_l g.max_h k) (get_or c.erle_onset_compensated k nan) ≡ true
-  pub learnt : LearntInRange g.min g.max_l g.max_h c.corrections
+  pub plain : (k : ℕ) → k < 65 → number_from g.limits.min (max_erle g.limits.max_l g.limits.max_h k) (get_or c.erle k nan) ≡ true
+  pub compensated : (k : ℕ) → k < 65 → number_from g.limits.min (max_erle g.limits.max_l g.limits.max_h k) (get_or c.erle_onset_compensated k nan) ≡ true
+  pub learnt : LearntInRange g.limits.min g.limits.max_l g.limits.max_h c.corrections
 
 -- Claim, which `SignalDependentErleEstimator::new` promises of the settings that it accepts and the state that it answers with: after any
 -- list of updates and resets, refused calls among them, every channel is in range.

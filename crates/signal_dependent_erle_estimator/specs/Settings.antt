@@ -5,12 +5,8 @@ use Rattle.signal_dependent_erle_estimator.specs.declared.settings.SignalDepende
 abbrev pub signal_settings : ErleSettings → SignalDependentSettings
 signal_settings g =
     record {
-      min = g.min;
-      max_l = g.max_l;
-      max_h = g.max_h;
+      limits = g.limits;
       onset_detection = g.onset_detection;
       num_capture_channels = g.num_capture_channels;
-      num_sections = g.num_sections;
-      filter_length_blocks = g.filter_length_blocks;
-      delay_headroom_samples = g.delay_headroom_samples;
+      layout = g.layout;
     }

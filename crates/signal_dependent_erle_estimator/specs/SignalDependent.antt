@@ -18,6 +18,7 @@ use Rattle.section_echoes.specs.Walk.{slot_length}
 use Rattle.section_echoes.specs.Packed.{total, responses_of}
 use Rattle.section_echoes.specs.Echoes.{active_sections}
 use Rattle.correction_factors.specs.Factors.{subband_sums}
+use Rattle.signal_dependent_erle_estimator.specs.declared.Inputs.{Inputs}
 use Rattle.signal_dependent_erle_estimator.specs.declared.settings.SignalDependentSettings.{SignalDependentSettings}
 use Rattle.signal_dependent_erle_estimator.specs.declared.channel.SignalDependentChannel.{SignalDependentChannel}
 use Rattle.signal_dependent_erle_estimator.specs.declared.SignalDependentErleEstimator.{SignalDependentErleEstimator}
@@ -52,6 +53,9 @@ update_lent render responses block =
       residual = block.e2.now;
       converged = block.converged_filters.now;
     }
+
+abbrev pub update_of : Inputs → Update
+update_of inputs = update_lent inputs.render inputs.responses inputs.block
 
 -- An update in two, beside its channel count: what the echoes are made of, which give the active sections; and the powers and flags, which by
 -- these sections (and here the two streams) move the estimator.
@@ -88,13 +92,14 @@ powers_lent block =
 -- the first of 1, 2 and 3 that the settings break, or 0
 unfoldable pub settings_refusal : SignalDependentSettings → ℕ
 settings_refusal s =
-    sectioned_settings_refusal s.min s.max_l s.max_h s.num_capture_channels
-    s.num_sections s.filter_length_blocks s.delay_headroom_samples
+    sectioned_settings_refusal s.limits.min s.limits.max_l s.limits.max_h s.num_capture_channels
+    s.layout.num_sections s.layout.filter_length_blocks s.layout.delay_headroom_samples
 
 -- the boundaries that the settings give, zeros behind them; zeros alone where number 3 turns the settings away
 unfoldable pub boundaries_of : SignalDependentSettings → List ℕ
 boundaries_of s =
-    result_unwrap_or (sections_answer s.num_sections s.filter_length_blocks s.delay_headroom_samples) (tab (suc max_sections) (λ k. 0))
+    result_unwrap_or (sections_answer s.layout.num_sections s.layout.filter_length_blocks s.layout.delay_headroom_samples)
+    (tab (suc max_sections) (λ k. 0))
 
 -- whether two lists have the same first n numbers
 unfoldable pub same_first : ℕ → List ℕ → List ℕ → Bool
@@ -103,7 +108,7 @@ same_first (suc n) xs ys = same_first n xs ys && eqb (get_or xs n 0) (get_or ys 
 
 -- the settings break none of 1, 2 and 3, and the boundaries held are those that they give
 abbrev pub settings_pass : SignalDependentSettings → List ℕ → Bool
-settings_pass s held = eqb (settings_refusal s) accepted && same_first (suc s.num_sections) held (boundaries_of s)
+settings_pass s held = eqb (settings_refusal s) accepted && same_first (suc s.layout.num_sections) held (boundaries_of s)
 
 -- every active section is below the section count
 unfoldable pub channel_ok : ℕ → SignalDependentChannel → Bool
@@ -114,7 +119,7 @@ channel_ok sections c = list_all (λ n. ltb n sections) c.n_active_sections
 unfoldable pub state_ok : SignalDependentErleEstimator → Bool
 state_ok s =
     let g = s.settings in
-    settings_pass g s.section_boundaries_blocks && list_all (channel_ok g.num_sections) (take g.num_capture_channels s.channels)
+    settings_pass g s.section_boundaries_blocks && list_all (channel_ok g.layout.num_sections) (take g.num_capture_channels s.channels)
 
 -- a reset is turned away under 20 alone
 unfoldable pub state_refusal : SignalDependentErleEstimator → ℕ
@@ -160,20 +165,20 @@ abbrev pub refusal_by : Bool → SignalDependentSettings → Update → Bool →
 refusal_by passes20 g u lengths_ok values_refused =
     unless passes20 bad_state
     (unless (eqb u.channels g.num_capture_channels) other_channel_count
-    (first_of (ring_refusal (headroom_blocks g.delay_headroom_samples) u.ring)
+    (first_of (ring_refusal (headroom_blocks g.layout.delay_headroom_samples) u.ring)
     (unless lengths_ok bad_length
     values_refused)))
 
 -- The same where the caller is lent more: it is known whether that has the length that 5 asks, and under which number its values are turned away.
 abbrev pub refusal_beside : Bool → SignalDependentSettings → Update → (others_lengths_ok : Bool) → (others_refused : ℕ) → ℕ
 refusal_beside passes20 g u others_lengths_ok others_refused =
-    refusal_by passes20 g u (lent_lengths_ok g.filter_length_blocks u && others_lengths_ok) (lesser (value_refusal (lent_values u)) others_refused)
+    refusal_by passes20 g u (lent_lengths_ok g.layout.filter_length_blocks u && others_lengths_ok) (lesser (value_refusal (lent_values u)) others_refused)
 
 -- a lent average is judged as a spectrum value; the state is told by whether number 20 lets it pass, and by its settings
 unfoldable pub refusal_of : Bool → SignalDependentSettings → Update → List Float → List Float → ℕ
 refusal_of passes20 g u average average_compensated =
     refusal_by passes20 g u
-    (all_lengths_ok g.filter_length_blocks u average average_compensated)
+    (all_lengths_ok g.layout.filter_length_blocks u average average_compensated)
     (value_refusal (lent_values u ++ average ++ average_compensated))
 
 unfoldable pub update_refusal : SignalDependentErleEstimator → Update → List Float → List Float → ℕ
@@ -187,7 +192,7 @@ started s =
     record {
       settings = s;
       section_boundaries_blocks = boundaries_of s;
-      channels = tab max_capture_channels (λ ch. fresh_channel s.min);
+      channels = tab max_capture_channels (λ ch. fresh_channel s.limits.min);
     }
 
 -- a start is accepted, or refused under 1, 2 or 3
@@ -217,8 +222,8 @@ channel_at s ch = get_or s.channels ch no_channel
 -- the active sections of a channel: they depend on settings, boundaries, ring and responses, and on nothing else
 unfoldable pub sections_found : SignalDependentSettings → List ℕ → Echoes → ℕ → List ℕ
 sections_found g boundaries e ch =
-    active_sections e.ring e.spectra (headroom_blocks g.delay_headroom_samples) boundaries
-    g.num_sections (get_or e.counts ch 0) (responses_of e.counts e.responses ch)
+    active_sections e.ring e.spectra (headroom_blocks g.layout.delay_headroom_samples) boundaries
+    g.layout.num_sections (get_or e.counts ch 0) (responses_of e.counts e.responses ch)
 
 -- of a state, in an update
 abbrev pub active_of : SignalDependentErleEstimator → Update → ℕ → List ℕ
@@ -253,7 +258,7 @@ updated s p active average average_compensated =
 -- With one section it changes nothing.
 unfoldable pub after_block :
     SignalDependentErleEstimator → Powers → (active : ℕ → List ℕ) → (average average_compensated : ℕ → List Float) → SignalDependentErleEstimator
-after_block s p active average average_compensated = cond (ltb 1 s.settings.num_sections) (updated s p active average average_compensated) s
+after_block s p active average average_compensated = cond (ltb 1 s.settings.layout.num_sections) (updated s p active average average_compensated) s
 
 -- An accepted update is that, by the active sections that it finds. The two streams are lent packed, 65 numbers for each channel.
 unfoldable pub after_accepted : SignalDependentErleEstimator → Update → List Float → List Float → SignalDependentErleEstimator

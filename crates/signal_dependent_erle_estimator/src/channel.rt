@@ -1,12 +1,14 @@
 // One channel's record: its streams, its active sections, and what it has learnt.
-ghost use Rattle.std.specs.Prelude.{◌≡◌, true, ◌≤◌, ltb, length};
+ghost use Rattle.std.specs.Prelude.{◌≡◌, true, ◌≤◌, ◌<◌, ◌+◌, ◌*◌, ltb, length};
 ghost use Rattle.std.specs.List.{list_all};
 
 use crate::settings::SignalDependentSettings;
+use aec3_common::Block;
 use correction_factors::{
-    CorrectionFactors, band_factors, copy_last, correct_stream, subband_sums,
+    CorrectionFactors, SubbandBlock, band_factors, copy_last, correct_stream, subband_sums,
 };
 
+// A table for each figure, not a record for each band: loops go over one table at a time, and a whole stream is shown at once.
 #[derive(Clone, Copy, Debug)]
 pub struct SignalDependentChannel {
     pub erle: [f32; 65],
@@ -24,6 +26,36 @@ pub struct ChannelBlock<'a> {
     pub e2: &'a [f32],
     pub average: &'a [f32],
     pub average_compensated: &'a [f32],
+    ghost capture: { length y2.now ≡ 65 },
+    ghost residual: { length e2.now ≡ 65 },
+    ghost plain: { length average.now ≡ 65 },
+    ghost compensated: { length average_compensated.now ≡ 65 },
+}
+
+impl<'a> ChannelBlock<'a> {
+    ghost use Rattle.signal_dependent_erle_estimator.specs.Channel.{lent_by};
+    ghost use Rattle.signal_dependent_erle_estimator.specs.SignalDependent.{powers_lent, lent_to};
+
+    // The part of a block that is a channel's, with its own two streams.
+    pub fn new(
+        block: &'a Block,
+        ch: usize,
+        average: &'a [f32],
+        average_compensated: &'a [f32],
+    ) -> ChannelBlock<'a>
+        requires flagged { ch < length block.now.converged_filters.now }
+        requires powers { (ch * 65 + 65 ≤ length block.now.y2.now) × (ch * 65 + 65 ≤ length block.now.e2.now) }
+        requires streams { (length average.now ≡ 65) × (length average_compensated.now ≡ 65) }
+        ensures { lent_by result ≡ lent_to (powers_lent block.now) (λ c. average.now) (λ c. average_compensated.now) ch }
+    {
+        ChannelBlock {
+            converged: block.converged_filters[ch],
+            y2: block.own_y2(ch),
+            e2: block.own_e2(ch),
+            average,
+            average_compensated,
+        }
+    }
 }
 
 impl SignalDependentChannel {
@@ -59,21 +91,20 @@ impl SignalDependentChannel {
         x2: &[f32; 6],
         own: &ChannelBlock,
     ) -> CorrectionFactors
-        requires bound { (1 ≤ settings.num_sections) × (settings.num_sections ≤ 8) }
-        requires y2_len { (length own.now.y2.now ≡ 65) × (length own.now.e2.now ≡ 65) }
+        requires bound { (1 ≤ settings.layout.num_sections) × (settings.layout.num_sections ≤ 8) }
         ensures { result ≡ learnt_if settings active.now x2.now own.now.converged own.now.y2.now own.now.e2.now self.corrections }
     {
         if !own.converged {
             return self.corrections;
         }
-        self.corrections.update(
-            settings.limits(),
-            settings.num_sections,
+        let block = SubbandBlock {
+            num_sections: settings.layout.num_sections,
             active,
             x2,
-            &subband_sums(own.y2),
-            &subband_sums(own.e2),
-        )
+            y2: &subband_sums(own.y2),
+            e2: &subband_sums(own.e2),
+        };
+        self.corrections.update(settings.limits, &block)
     }
 
     // One update, by the active section of each band and the subband sums of the render power.
@@ -84,16 +115,15 @@ impl SignalDependentChannel {
         x2: &[f32; 6],
         own: &ChannelBlock,
     ) -> SignalDependentChannel
-        requires bound { (1 ≤ settings.num_sections) × (settings.num_sections ≤ 8) }
-        requires active_value { list_all (λ n. ltb n settings.num_sections) active.now ≡ true }
-        requires y2_len { (length own.now.y2.now ≡ 65) × (length own.now.e2.now ≡ 65) × (length own.now.average.now ≡ 65) × (length own.now.average_compensated.now ≡ 65) }
+        requires bound { (1 ≤ settings.layout.num_sections) × (settings.layout.num_sections ≤ 8) }
+        requires active_value { list_all (λ n. ltb n settings.layout.num_sections) active.now ≡ true }
         ensures { result ≡ channel_after settings active.now x2.now (lent_by own.now) self }
     {
         let corrections = self.learnt(settings, active, x2, own);
         self.corrections = corrections;
         self.n_active_sections = *active;
         let factors = band_factors(&corrections.correction_factors, active);
-        let limits = settings.limits();
+        let limits = settings.limits;
         correct_stream(&mut self.erle, own.average, &factors, limits);
         if settings.onset_detection {
             correct_stream(

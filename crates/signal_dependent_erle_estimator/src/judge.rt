@@ -1,19 +1,20 @@
 // Which updates are turned away.
-ghost use Rattle.std.specs.Prelude.{◌≡◌, ◌&&◌, ◌++◌, ◌*◌, leb, eqb, length};
+ghost use Rattle.std.specs.Prelude.{◌≡◌, true, ◌&&◌, ◌++◌, ◌*◌, leb, eqb, length};
 ghost use Rattle.aec3_common.specs.Answers.{number_of};
 ghost use Rattle.aec3_common.specs.Calls.{value_refusal};
+ghost use Rattle.aec3_common.specs.Refusal.{unless, bad_length};
 ghost use Rattle.std.specs.List.{list_all};
 ghost use Rattle.section_echoes.specs.Packed.{total};
 ghost use Rattle.section_echoes.specs.Walk.{slot_length};
-ghost use Rattle.signal_dependent_erle_estimator.specs.SignalDependent.{update_lent, slots_reach, ring_refusal, responses_ok, lent_lengths_ok, lent_values, refusal_beside, refusal_of};
+ghost use Rattle.signal_dependent_erle_estimator.specs.SignalDependent.{update_of, slots_reach, ring_refusal, responses_ok, lent_lengths_ok, lent_values, refusal_beside, refusal_of};
 
-use crate::Averages;
 use crate::settings::SignalDependentSettings;
+use crate::{Averages, Inputs};
+use aec3_common::Refusal;
 use aec3_common::block::judge_values;
 use aec3_common::refusal::lesser;
 use aec3_common::settings::{headroom_blocks, render_channels_ok};
 use aec3_common::spectra::are_spectra;
-use aec3_common::{Block, Refusal};
 use section_echoes::{FilterResponses, RenderBuffer, RenderRing};
 use spectrum_buffer::slots_ok;
 
@@ -79,34 +80,6 @@ fn spectra_ok(render: &RenderBuffer) -> bool
     spectra.is_some_and(|n| are_spectra(render.spectra.len(), n))
 }
 
-// Number 5, of what is lent.
-#[tactic(auto, unfolding(crate::specs::SignalDependent::lent_lengths_ok))]
-fn lent_lengths_ok(
-    filter_length: usize,
-    render: &RenderBuffer,
-    responses: &FilterResponses,
-    block: &Block,
-) -> bool
-    ensures { result ≡ lent_lengths_ok filter_length (update_lent render.now responses.now block.now) }
-{
-    block.lengths_ok()
-        & spectra_ok(render)
-        & responses_ok(block.num_capture_channels, filter_length, responses)
-}
-
-// Number 6, of the values of what is lent.
-#[tactic(auto, using(aec3_common::proofs::Values::value_refusal_append), unfolding(crate::specs::SignalDependent::lent_values))]
-fn judge_lent_values(
-    render: &RenderBuffer,
-    responses: &FilterResponses,
-    block: &Block,
-) -> Result<(), Refusal>
-    ensures { number_of result ≡ value_refusal (lent_values (update_lent render.now responses.now block.now)) }
-{
-    let powers = lesser(block.judge_values(), judge_values(render.spectra));
-    lesser(powers, judge_values(responses.responses))
-}
-
 impl Averages<'_> {
     // Number 5, of the two streams.
     fn lengths_ok(&self, channels: usize) -> bool
@@ -122,57 +95,81 @@ impl Averages<'_> {
     {
         lesser(judge_values(self.plain), judge_values(self.compensated))
     }
+
+    // The first of 5 and 6.
+    fn judge(&self, channels: usize) -> Result<(), Refusal>
+        ensures { number_of result ≡ unless (eqb (length self.now.plain.now) (channels * 65) && eqb (length self.now.compensated.now) (channels * 65)) bad_length (value_refusal (self.now.plain.now ++ self.now.compensated.now)) }
+    {
+        if !self.lengths_ok(channels) {
+            return Err(Refusal::BadLength);
+        }
+        self.judge_values()
+    }
 }
 
-// The first of 20, 21, 2, 4, 9, 5 and 6, where it is known whether number 20 lets the state pass; and of what the caller is lent besides,
-// whether it has the length that is asked, and whether its values are turned away. Seven parameters: what a call is lent as it stands in the
-// call, and what is known besides; a struct of them would be made for each call and taken apart at once.
-pub fn judge_beside(
-    state_ok: bool,
-    settings: SignalDependentSettings,
-    render: &RenderBuffer,
-    responses: &FilterResponses,
-    block: &Block,
-    others_lengths_ok: bool,
-    others: Result<(), Refusal>,
-) -> Result<(), Refusal>
-    ensures { number_of result ≡ refusal_beside state_ok settings (update_lent render.now responses.now block.now) others_lengths_ok (number_of others) }
-{
-    if !state_ok {
-        return Err(Refusal::BadState);
+impl Inputs<'_> {
+    // Number 5.
+    #[tactic(auto, unfolding(crate::specs::SignalDependent::lent_lengths_ok))]
+    fn lengths_ok(&self, filter_length: usize) -> bool
+        ensures { result ≡ lent_lengths_ok filter_length (update_of self.now) }
+    {
+        self.block.lengths_ok()
+            & spectra_ok(&self.render)
+            & responses_ok(
+                self.block.num_capture_channels,
+                filter_length,
+                &self.responses,
+            )
     }
-    if block.num_capture_channels != settings.num_capture_channels {
-        return Err(Refusal::OtherChannelCount);
-    }
-    judge_ring(
-        render.ring,
-        headroom_blocks(settings.delay_headroom_samples),
-    )?;
-    let lengths_ok = lent_lengths_ok(settings.filter_length_blocks, render, responses, block);
-    if !(lengths_ok & others_lengths_ok) {
-        return Err(Refusal::BadLength);
-    }
-    lesser(judge_lent_values(render, responses, block), others)
-}
 
-// The first of 20, 21, 2, 4, 9, 5 and 6, where it is known whether number 20 lets the state pass. Six parameters, as above.
-pub fn judge_update(
-    state_ok: bool,
-    settings: SignalDependentSettings,
-    render: &RenderBuffer,
-    responses: &FilterResponses,
-    block: &Block,
-    averages: &Averages,
-) -> Result<(), Refusal>
-    ensures { number_of result ≡ refusal_of state_ok settings (update_lent render.now responses.now block.now) averages.now.plain.now averages.now.compensated.now }
-{
-    judge_beside(
-        state_ok,
-        settings,
-        render,
-        responses,
-        block,
-        averages.lengths_ok(block.num_capture_channels),
-        averages.judge_values(),
-    )
+    // Number 6.
+    #[tactic(auto, using(aec3_common::proofs::Values::value_refusal_append), unfolding(crate::specs::SignalDependent::lent_values))]
+    fn judge_values(&self) -> Result<(), Refusal>
+        ensures { number_of result ≡ value_refusal (lent_values (update_of self.now)) }
+    {
+        let powers = lesser(self.block.judge_values(), judge_values(self.render.spectra));
+        lesser(powers, judge_values(self.responses.responses))
+    }
+
+    // The first of 20, 21, 2, 4, 9, 5 and 6, where it is known whether number 20 lets the state pass; and what 5 and 6 say of what the caller is
+    // lent besides.
+    pub fn judge_beside(
+        &self,
+        state_ok: bool,
+        settings: SignalDependentSettings,
+        others: Result<(), Refusal>,
+    ) -> Result<(), Refusal>
+        ensures { number_of result ≡ refusal_beside state_ok settings (update_of self.now) true (number_of others) }
+    {
+        if !state_ok {
+            return Err(Refusal::BadState);
+        }
+        if self.block.num_capture_channels != settings.num_capture_channels {
+            return Err(Refusal::OtherChannelCount);
+        }
+        judge_ring(
+            self.render.ring,
+            headroom_blocks(settings.layout.delay_headroom_samples),
+        )?;
+        if !self.lengths_ok(settings.layout.filter_length_blocks) {
+            return Err(Refusal::BadLength);
+        }
+        lesser(self.judge_values(), others)
+    }
+
+    // The first of 20, 21, 2, 4, 9, 5 and 6, with two streams, where it is known whether number 20 lets the state pass.
+    pub fn judge_update(
+        &self,
+        state_ok: bool,
+        settings: SignalDependentSettings,
+        averages: &Averages,
+    ) -> Result<(), Refusal>
+        ensures { number_of result ≡ refusal_of state_ok settings (update_of self.now) averages.now.plain.now averages.now.compensated.now }
+    {
+        self.judge_beside(
+            state_ok,
+            settings,
+            averages.judge(self.block.num_capture_channels),
+        )
+    }
 }

@@ -17,15 +17,15 @@ pub fn active_sections(
     responses: &FilterResponses,
 ) -> [[u32; 65]; 4]
     requires ring_fits { RingFits render.now.ring render.now.spectra.now }
-    requires delay_headroom_samples_bound { (1 < settings.num_sections → headroom_blocks settings.delay_headroom_samples < max_filter_length_blocks) × (settings.num_sections ≤ 8) × (length responses.now.blocks.now ≤ 4) }
+    requires delay_headroom_samples_bound { (1 < settings.layout.num_sections → headroom_blocks settings.layout.delay_headroom_samples < max_filter_length_blocks) × (settings.layout.num_sections ≤ 8) × (length responses.now.blocks.now ≤ 4) }
     requires response_blocks_value { (list_all (λ n. leb n max_filter_length_blocks) responses.now.blocks.now ≡ true) × (length responses.now.responses.now ≡ total responses.now.blocks.now * 65) }
-    ensures { 1 < settings.num_sections → result ≡ all_active render.now.ring render.now.spectra.now (headroom_blocks settings.delay_headroom_samples) boundaries.now settings.num_sections responses.now.blocks.now responses.now.responses.now }
+    ensures { 1 < settings.layout.num_sections → result ≡ all_active render.now.ring render.now.spectra.now (headroom_blocks settings.layout.delay_headroom_samples) boundaries.now settings.layout.num_sections responses.now.blocks.now responses.now.responses.now }
 {
-    if settings.num_sections > 1 {
+    if settings.layout.num_sections > 1 {
         let plan = SectionPlan {
-            headroom: headroom_blocks(settings.delay_headroom_samples),
+            headroom: headroom_blocks(settings.layout.delay_headroom_samples),
             boundaries: *boundaries,
-            num_sections: settings.num_sections,
+            num_sections: settings.layout.num_sections,
         };
         all_active_sections(render, responses, &plan)
     } else {

@@ -7,14 +7,10 @@ use aec3_common::{ErleLimits, ErleSettings, FilterLayout, Refusal};
 
 #[derive(Clone, Copy, Debug)]
 pub struct SignalDependentSettings {
-    pub min: f32,
-    pub max_l: f32,
-    pub max_h: f32,
+    pub limits: ErleLimits,
     pub onset_detection: bool,
     pub num_capture_channels: usize,
-    pub num_sections: usize,
-    pub filter_length_blocks: usize,
-    pub delay_headroom_samples: usize,
+    pub layout: FilterLayout,
 }
 
 // The share of the whole estimator's settings.
@@ -25,14 +21,10 @@ impl From<ErleSettings> for SignalDependentSettings {
 
     fn from(settings: ErleSettings) -> SignalDependentSettings {
         SignalDependentSettings {
-            min: settings.min,
-            max_l: settings.max_l,
-            max_h: settings.max_h,
+            limits: settings.limits,
             onset_detection: settings.onset_detection,
             num_capture_channels: settings.num_capture_channels,
-            num_sections: settings.num_sections,
-            filter_length_blocks: settings.filter_length_blocks,
-            delay_headroom_samples: settings.delay_headroom_samples,
+            layout: settings.layout,
         }
     }
 }
@@ -45,26 +37,6 @@ impl SignalDependentSettings {
     pub fn judge(self) -> Result<(), Refusal>
         ensures { number_of result ≡ settings_refusal self }
     {
-        judge_sectioned_settings(self.limits(), self.num_capture_channels, self.layout())
-    }
-
-    pub fn limits(self) -> ErleLimits
-        ensures { result ≡ (record { min = self.min; max_l = self.max_l; max_h = self.max_h }) }
-    {
-        ErleLimits {
-            min: self.min,
-            max_l: self.max_l,
-            max_h: self.max_h,
-        }
-    }
-
-    pub(crate) fn layout(self) -> FilterLayout
-        ensures { result ≡ (record { num_sections = self.num_sections; filter_length_blocks = self.filter_length_blocks; delay_headroom_samples = self.delay_headroom_samples }) }
-    {
-        FilterLayout {
-            num_sections: self.num_sections,
-            filter_length_blocks: self.filter_length_blocks,
-            delay_headroom_samples: self.delay_headroom_samples,
-        }
+        judge_sectioned_settings(self.limits, self.num_capture_channels, self.layout)
     }
 }

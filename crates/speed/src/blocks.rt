@@ -1,11 +1,14 @@
-// The blocks that a driver lends, one behind the other, and the rounds over them.
-ghost use Rattle.std.specs.Prelude.{ℕ, ◌≤◌, ◌<◌};
+// The blocks that a driver lends, one behind the other.
+ghost use Rattle.std.specs.Prelude.{ℕ, ◌≡◌, ◌≤◌, ◌<◌, ◌*◌, ◌↔◌, length, take, IsNone, IsSome, IfSome};
+ghost use Rattle.speed.specs.Room.{Room};
 
-use aec3_common::Block;
 use aec3_common::settings::capture_channels_ok;
 
 // The first so many blocks of a slice, each of a size; none where it is shorter.
-pub fn first_blocks<T>(all: &[T], size: usize, blocks: usize) -> Option<&[T]> {
+pub fn first_blocks<T>(all: &[T], size: usize, blocks: usize) -> Option<&[T]>
+    ensures short { IsNone result ↔ (length all.now < size * blocks) }
+    ensures front { IfSome result (λ front. front.now ≡ take (size * blocks) all.now) }
+{
     all.get(..size.checked_mul(blocks)?)
 }
 
@@ -13,11 +16,11 @@ pub fn first_blocks<T>(all: &[T], size: usize, blocks: usize) -> Option<&[T]> {
 // channel.
 #[derive(Clone, Copy, Debug)]
 pub struct Blocks<'a> {
-    num_capture_channels: usize,
-    flags: &'a [bool],
-    render: &'a [f32],
-    capture: &'a [f32],
-    residual: &'a [f32],
+    pub num_capture_channels: usize,
+    pub flags: &'a [bool],
+    pub render: &'a [f32],
+    pub capture: &'a [f32],
+    pub residual: &'a [f32],
     ghost some_channels: { 0 < num_capture_channels },
     ghost few_channels: { num_capture_channels ≤ 4 },
 }
@@ -31,7 +34,14 @@ impl<'a> Blocks<'a> {
         capture: &'a [f32],
         residual: &'a [f32],
         blocks: usize,
-    ) -> Option<Blocks<'a>> {
+    ) -> Option<Blocks<'a>>
+        ensures room { IsSome result ↔ ((0 < num_capture_channels) × Room num_capture_channels blocks (length flags.now) (length render.now) (length capture.now) (length residual.now)) }
+        ensures channels { IfSome result (λ lists. lists.num_capture_channels ≡ num_capture_channels) }
+        ensures flags { IfSome result (λ lists. lists.flags.now ≡ take (num_capture_channels * blocks) flags.now) }
+        ensures render { IfSome result (λ lists. lists.render.now ≡ take (65 * blocks) render.now) }
+        ensures capture { IfSome result (λ lists. lists.capture.now ≡ take (num_capture_channels * 65 * blocks) capture.now) }
+        ensures residual { IfSome result (λ lists. lists.residual.now ≡ take (num_capture_channels * 65 * blocks) residual.now) }
+    {
         if !capture_channels_ok(num_capture_channels) {
             return None;
         }
@@ -43,36 +53,5 @@ impl<'a> Blocks<'a> {
             capture: first_blocks(capture, numbers, blocks)?,
             residual: first_blocks(residual, numbers, blocks)?,
         })
-    }
-
-    // What a step makes of an estimator, block by block, and that so many rounds. The step is told which block of the round it is. It is lent
-    // the estimator: by value its state would be copied twice more for each block, and the copies timed.
-    pub fn run<E, F: Fn(&mut E, usize, &Block)>(&self, start: E, rounds: usize, step: F) -> E
-        requires { F.IsAlwaysCallable step }
-    {
-        let numbers = self.num_capture_channels * 65;
-        let mut estimator = start;
-        for _ in 0..rounds {
-            let powers = self
-                .capture
-                .chunks_exact(numbers)
-                .zip(self.residual.chunks_exact(numbers));
-            let lists = self
-                .flags
-                .chunks_exact(self.num_capture_channels)
-                .zip(self.render.chunks_exact(65))
-                .zip(powers);
-            for (index, ((converged_filters, x2), (y2, e2))) in lists.enumerate() {
-                let block = Block {
-                    num_capture_channels: self.num_capture_channels,
-                    converged_filters,
-                    x2,
-                    y2,
-                    e2,
-                };
-                step(&mut estimator, index, &block);
-            }
-        }
-        estimator
     }
 }

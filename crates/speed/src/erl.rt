@@ -17,7 +17,7 @@ pub extern "C" fn speed_erl(
     blocks: usize,
     rounds: usize,
 ) -> f32 {
-    if (captures > MAX_CAPTURE_CHANNELS) | (renders > MAX_RENDER_CHANNELS) {
+    if captures > MAX_CAPTURE_CHANNELS || renders > MAX_RENDER_CHANNELS {
         return 0.0;
     }
     let Some(flags) = first_blocks(flags, captures, blocks) else {
@@ -31,9 +31,11 @@ pub extern "C" fn speed_erl(
     };
     let mut erl = ErlEstimator::new(0);
     // Without a channel every update is turned away.
-    if (captures == 0) | (renders == 0) {
+    if captures == 0 || renders == 0 {
         return erl_sum(&erl);
     }
+    // Rounds of their own beside `Blocks::run`: a block of an ERL estimator has more than one render channel and no residual, so one loop for
+    // both would need a trait over what a block is cut from, which is longer than this.
     for _ in 0..rounds {
         let lists = flags
             .chunks_exact(captures)

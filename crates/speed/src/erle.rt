@@ -1,9 +1,9 @@
 // Updates of the whole ERLE estimator.
 use crate::blocks::Blocks;
 use crate::figures::erle_sum;
-use crate::ring::{FILTER_LENGTH_BLOCKS, Shared};
-use aec3_common::Block;
-use erle_estimator::{ErleEstimator, ErleSettings};
+use crate::ring::{FILTER_LENGTH_BLOCKS, SharedLists};
+use aec3_common::{Block, ErleLimits, FilterLayout};
+use erle_estimator::{ErleEstimator, ErleSettings, Inputs};
 
 // Runs the whole ERLE estimator, without startup, over all blocks, in order, and that so many rounds. A block has one flag
 // for each channel, 65 render numbers, and 65 capture and 65 residual numbers for each channel; blocks lie one after the
@@ -26,18 +26,22 @@ pub extern "C" fn speed_erle(
     let Some(lists) = Blocks::new(channels, flags, render, capture, residual, blocks) else {
         return 0.0;
     };
-    let Some(shared) = Shared::new(channels, ring, responses) else {
+    let Some(shared) = SharedLists::new(channels, ring, responses) else {
         return 0.0;
     };
     let settings = ErleSettings {
-        min: 1.0,
-        max_l: 4.0,
-        max_h: 1.5,
+        limits: ErleLimits {
+            min: 1.0,
+            max_l: 4.0,
+            max_h: 1.5,
+        },
         onset_detection: true,
         num_capture_channels: channels,
-        num_sections: sections,
-        filter_length_blocks: FILTER_LENGTH_BLOCKS,
-        delay_headroom_samples: 0,
+        layout: FilterLayout {
+            num_sections: sections,
+            filter_length_blocks: FILTER_LENGTH_BLOCKS,
+            delay_headroom_samples: 0,
+        },
         clamp_quality_estimate_to_zero: true,
         clamp_quality_estimate_to_one: true,
     };
@@ -45,9 +49,12 @@ pub extern "C" fn speed_erle(
         return 0.0;
     };
     let step = |estimator: &mut ErleEstimator, index: usize, block: &Block| {
-        *estimator = estimator
-            .update(&shared.buffer(index), &shared.responses(), block)
-            .state;
+        let inputs = Inputs {
+            render: shared.buffer(index),
+            responses: shared.responses,
+            block: *block,
+        };
+        *estimator = estimator.update(&inputs).state;
     };
     erle_sum(&lists.run(start, rounds, step))
 }

@@ -1,8 +1,8 @@
 // Updates of the fullband estimator.
 use crate::blocks::Blocks;
 use crate::figures::fullband_sum;
-use aec3_common::Block;
-use fullband_erle_estimator::{FullBandErleEstimator, FullBandSettings};
+use aec3_common::{Block, ErleLimits};
+use fullband_erle_estimator::{FullBandErleEstimator, FullBandSettings, QualityClamps};
 
 // Runs a fullband estimator over all blocks, in order, and that so many rounds. A block has one flag for each channel,
 // 65 render numbers, and 65 capture and 65 residual numbers for each channel; blocks lie one after the other. Answers
@@ -22,11 +22,15 @@ pub extern "C" fn speed_fullband(
         return 0.0;
     };
     let settings = FullBandSettings {
-        min: 1.0,
-        max_l: 4.0,
-        max_h: 1.5,
-        clamp_quality_estimate_to_zero: true,
-        clamp_quality_estimate_to_one: true,
+        limits: ErleLimits {
+            min: 1.0,
+            max_l: 4.0,
+            max_h: 1.5,
+        },
+        clamps: QualityClamps {
+            to_zero: true,
+            to_one: true,
+        },
         num_capture_channels: channels,
     };
     let Ok(start) = FullBandErleEstimator::new(settings) else {

@@ -1,5 +1,6 @@
-// A measuring aid: many updates of an estimator behind one call, so that a driver can time them. It is proved safe and
-// ending, and claims no more. The exported functions keep their many parameters: they are the C interface that the oracle's driver calls.
+// A measuring aid: many updates of an estimator behind one call, so that a driver can time them. The exported functions claim no more than
+// that they are safe and end; what blocks, ring and rounds promise stands beside them. The exported functions keep their many parameters: they
+// are the C interface that the oracle's driver calls.
 #![tactic(auto)]
 
 mod blocks;
@@ -8,5 +9,6 @@ mod erle;
 mod figures;
 mod fullband;
 mod ring;
+mod rounds;
 mod signal_dependent;
 mod subband;

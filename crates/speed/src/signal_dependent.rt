@@ -1,10 +1,10 @@
 // Updates of the signal-dependent estimator.
 use crate::blocks::{Blocks, first_blocks};
 use crate::figures::signal_dependent_sum;
-use crate::ring::{FILTER_LENGTH_BLOCKS, Shared};
-use aec3_common::Block;
+use crate::ring::{FILTER_LENGTH_BLOCKS, SharedLists};
+use aec3_common::{Block, ErleLimits, FilterLayout};
 use signal_dependent_erle_estimator::{
-    Averages, SignalDependentErleEstimator, SignalDependentSettings,
+    Averages, Inputs, SignalDependentErleEstimator, SignalDependentSettings,
 };
 
 // Runs a signal-dependent estimator over all blocks, in order, and that so many rounds. A block has one flag for each channel, 65 render
@@ -29,7 +29,7 @@ pub extern "C" fn speed_signal_dependent(
     let Some(lists) = Blocks::new(channels, flags, render, capture, residual, blocks) else {
         return 0.0;
     };
-    let Some(shared) = Shared::new(channels, ring, responses) else {
+    let Some(shared) = SharedLists::new(channels, ring, responses) else {
         return 0.0;
     };
     let Some(stream) = first_blocks(averages, 65, channels) else {
@@ -40,22 +40,29 @@ pub extern "C" fn speed_signal_dependent(
         compensated: stream,
     };
     let settings = SignalDependentSettings {
-        min: 1.0,
-        max_l: 4.0,
-        max_h: 1.5,
+        limits: ErleLimits {
+            min: 1.0,
+            max_l: 4.0,
+            max_h: 1.5,
+        },
         onset_detection: true,
         num_capture_channels: channels,
-        num_sections: sections,
-        filter_length_blocks: FILTER_LENGTH_BLOCKS,
-        delay_headroom_samples: 0,
+        layout: FilterLayout {
+            num_sections: sections,
+            filter_length_blocks: FILTER_LENGTH_BLOCKS,
+            delay_headroom_samples: 0,
+        },
     };
     let Ok(start) = SignalDependentErleEstimator::new(settings) else {
         return 0.0;
     };
     let step = |estimator: &mut SignalDependentErleEstimator, index: usize, block: &Block| {
-        *estimator = estimator
-            .update(&shared.buffer(index), &shared.responses(), block, &averages)
-            .state;
+        let inputs = Inputs {
+            render: shared.buffer(index),
+            responses: shared.responses,
+            block: *block,
+        };
+        *estimator = estimator.update(&inputs, &averages).state;
     };
     signal_dependent_sum(&lists.run(start, rounds, step))
 }

@@ -1,7 +1,7 @@
 // Updates of the subband estimator.
 use crate::blocks::Blocks;
 use crate::figures::subband_sum;
-use aec3_common::Block;
+use aec3_common::{Block, ErleLimits};
 use subband_erle_estimator::{SubbandErleEstimator, SubbandSettings};
 
 // Runs a subband estimator over all blocks, in order, and that so many rounds. A block has one flag for each channel,
@@ -23,9 +23,11 @@ pub extern "C" fn speed_subband(
         return 0.0;
     };
     let settings = SubbandSettings {
-        min: 1.0,
-        max_l: 4.0,
-        max_h: 1.5,
+        limits: ErleLimits {
+            min: 1.0,
+            max_l: 4.0,
+            max_h: 1.5,
+        },
         onset_detection: onset,
         num_capture_channels: channels,
     };

@@ -1,5 +1,5 @@
 -- Bytes that are read behind those that are held.
-use Rattle.std.proofs.Common.{◌≡◌, ℕ, ◌+◌, ◌-◌, ◌≤◌, ◌<◌, List, [], ◌++◌, length, take, drop, sym, ap, ◌∙◌, arith, false, add-zero, zero-add}
+use Rattle.std.proofs.Common.{◌≡◌, ℕ, ◌+◌, ◌-◌, ◌≤◌, ◌<◌, List, [], ◌++◌, length, take, drop, refl, sym, ap, ◌∙◌, arith, false, add-zero, zero-add}
 use Rattle.std.proofs.Math.Seq.{paste, take-paste, take-append-add}
 use Rattle.std.proofs.lemmas.List.{take-append-le}
 use Rattle.std.specs.Prelude.{Option, Some, None, nat_eq}
@@ -47,11 +47,12 @@ module _
       pub read-some :
           (n : ℕ) → n ≤ length buf → 0 < length buf
           → Consumes before after (take n buf) × (n ≡ 0 → 0 < length buf → IsAtEnd after)
-          → ReadOn before after held (put_mid (to - from) k moved buf) (record { to = to - from + n; ended = nat_eq n 0 })
+          → ReadOn before after held (put_mid (to - from) k moved buf) (record { from = 0; to = to - from + n; ended = nat_eq n 0 })
       read-some n less room (taken, end) =
           let rest = post_of (to - from) k moved in
           record {
             got = take n buf;
+            front = refl;
             within = omega (arith, same, length-append (take (to - from) moved) (buf ++ rest), length-append buf rest, length-take-le (to - from) moved (omega arith));
             now = behind moved buf (to - from) k n (omega arith) less ∙ ap (λ (l : List ℕ). l ++ take n buf) held_is;
             taken = taken;
@@ -59,10 +60,11 @@ module _
           }
 
       -- none were, since a signal came first
-      pub read-none : Keeps before after → ReadOn before after held (put_mid (to - from) k moved buf) (record { to = to - from; ended = false })
+      pub read-none : Keeps before after → ReadOn before after held (put_mid (to - from) k moved buf) (record { from = 0; to = to - from; ended = false })
       read-none keeps =
           record {
             got = [];
+            front = refl;
             within = omega (arith, same);
             now = ap (λ (m : ℕ). take m (put_mid (to - from) k moved buf)) (sym (add-zero (to - from))) ∙ behind moved buf (to - from) k 0 (omega arith) (omega arith) ∙ ap (λ (l : List ℕ). l ++ []) held_is;
             taken = keeps-consumes before after keeps;

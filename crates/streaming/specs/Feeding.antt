@@ -38,6 +38,7 @@ pub record Feeds
 -- Bytes were read behind those that are held: all of them stand at the front of the table then. The input has ended only if none are left.
 pub record ReadOn (before after : Option (List ℕ)) (held table : List ℕ) (h : Held) : Type 0 where
   pub got : List ℕ
+  pub front : h.from ≡ 0
   pub within : h.to ≤ length table
   pub now : take h.to table ≡ held ++ got
   pub taken : Consumes before after got

@@ -5,7 +5,7 @@ ghost use Rattle.streaming.specs.declared.failure.Failure.TheVariants.{NoRoom, R
 ghost use Rattle.streaming.specs.Feeding.{most_held, Feeds, Begun};
 
 use crate::failure::Failure;
-use crate::reading::{read_on, write_out};
+use crate::reading::{Held, read_on, write_out};
 use std::io::{Read, Write};
 
 // Why feeding stopped: more bytes are wanted, or more room; or nothing is to be written any more, whatever follows.
@@ -59,13 +59,15 @@ pub fn run<T: Transducer + Drop, R: Read, W: Write>(
     ensures room { most_held ≤ length input.old → T.least ≤ length out.old → IfErr result (λ e. e ≢ NoRoom) }
 {
     let mut job = T::start();
-    let mut from = 0;
-    let mut to = 0;
-    let mut ended = false;
+    let mut held = Held {
+        from: 0,
+        to: 0,
+        ended: false,
+    };
     for _ in 0..u64::MAX {
-        let fed = job.feed(&input[from..to], ended, out, 0);
-        write_out(writer, out, fed.at)?;
-        from += fed.used;
+        let fed = job.feed(&input[held.from..held.to], held.ended, out, 0);
+        write_out(writer, &out[..fed.at])?;
+        held.from += fed.used;
         match fed.stop {
             Stop::Done => return Ok(()),
             Stop::WantsRoom => {
@@ -74,13 +76,10 @@ pub fn run<T: Transducer + Drop, R: Read, W: Write>(
                 }
             }
             Stop::WantsBytes => {
-                if ended {
+                if held.ended {
                     return Ok(());
                 }
-                let held = read_on(reader, input, from, to)?;
-                from = 0;
-                to = held.to;
-                ended = held.ended;
+                held = read_on(reader, input, held)?;
             }
         }
     }

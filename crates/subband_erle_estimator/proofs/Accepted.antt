@@ -20,7 +20,7 @@ answer-not-20 s (update channels converged render capture residual) ok e =
     update-not-20 s.settings.num_capture_channels channels converged render capture residual (rw ok at e)
 answer-not-20 s reset ok e = let never : ◌≡◌ {A = ℕ} 0 20 = rw ok at e in omega arith
 
-pub never-bad-state : (g : SubbandSettings) → InBinary32 g.min g.max_l g.max_h → settings_refusal g ≡ accepted → NeverBadState (started g)
+pub never-bad-state : (g : SubbandSettings) → InBinary32 g.limits.min g.limits.max_l g.limits.max_h → settings_refusal g ≡ accepted → NeverBadState (started g)
 unfolding NeverBadState
 never-bad-state g in_binary32 e calls next =
     let ok = settings-ok g in_binary32 e in

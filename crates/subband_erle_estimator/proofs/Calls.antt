@@ -26,16 +26,16 @@ use Rattle.subband_erle_estimator.proofs.Channels.{ChannelKept, fresh_kept, afte
 
 -- every band has a minimum and a maximum, and there are at most four channels
 pub record SettingsOk (g : SubbandSettings) : Type 0 where
-  pub limits : AllInOrder g.min g.max_l g.max_h
+  pub limits : AllInOrder g.limits.min g.limits.max_l g.limits.max_h
   pub channels : g.num_capture_channels ≤ 4
 
 -- settings that pass
-pub settings-ok : (g : SubbandSettings) → InBinary32 g.min g.max_l g.max_h → settings_refusal g ≡ accepted → SettingsOk g
+pub settings-ok : (g : SubbandSettings) → InBinary32 g.limits.min g.limits.max_l g.limits.max_h → settings_refusal g ≡ accepted → SettingsOk g
 unfolding settings_refusal
 settings-ok g in_binary32 e =
     record {
-      limits = all-in-order g.min g.max_l g.max_h in_binary32 (limits-passed g.min g.max_l g.max_h g.num_capture_channels e);
-      channels = few-channels g.min g.max_l g.max_h g.num_capture_channels e;
+      limits = all-in-order g.limits.min g.limits.max_l g.limits.max_h in_binary32 (limits-passed g.limits.min g.limits.max_l g.limits.max_h g.num_capture_channels e);
+      channels = few-channels g.limits.min g.limits.max_l g.limits.max_h g.num_capture_channels e;
     }
 
 -- ---- a state
@@ -61,7 +61,7 @@ module _ (g : SubbandSettings) (ok : SettingsOk g) where
       record {
         settings = refl;
         channels = λ ch h.
-            subst (ChannelKept g) (sym (get_or-tab 4 (λ c. fresh g.min) ch no_channel (omega (arith, ok.channels)))) (fresh_kept g ok.limits);
+            subst (ChannelKept g) (sym (get_or-tab 4 (λ c. fresh g.limits.min) ch no_channel (omega (arith, ok.channels)))) (fresh_kept g ok.limits);
       }
 
   -- a channel after an accepted update

@@ -44,9 +44,9 @@ pub record Copied (c : SubbandChannel) (k : ℕ) : Type 0 where
 pub record ChannelKept (s : SubbandSettings) (c : SubbandChannel) : Type 0 where
   pub long : Long c
   pub sums : ChannelSums c
-  pub streams : (k : ℕ) → k < 65 → StreamsKept s.min (max_at s k) (streams_at c k)
-  pub onset : (k : ℕ) → k < 65 → OnsetKept s.min (max_at s k) (onset_at c k)
-  pub onset_min : (k : ℕ) → k < 65 → (onset_at c k).onset ≡ s.min
+  pub streams : (k : ℕ) → k < 65 → StreamsKept s.limits.min (max_at s k) (streams_at c k)
+  pub onset : (k : ℕ) → k < 65 → OnsetKept s.limits.min (max_at s k) (onset_at c k)
+  pub onset_min : (k : ℕ) → k < 65 → (onset_at c k).onset ≡ s.limits.min
   pub copied : (k : ℕ) → k < 65 → Copied c k
   pub outer : (k : ℕ) → k < 65 → inner_band k ≡ false → (onset_at c k).waits ≡ true
 
@@ -70,9 +70,9 @@ module _ (s : SubbandSettings) (n : ℕ) (sums : ℕ → Sums) (streams : ℕ �
 
   module _
       (heard : ChannelSums record-shown)
-      (in_range : (k : ℕ) → k < 65 → StreamsKept s.min (max_at s k) (streams k))
-      (held : (k : ℕ) → k < 65 → OnsetKept s.min (max_at s k) (onset k))
-      (least : (k : ℕ) → k < 65 → (onset k).onset ≡ s.min)
+      (in_range : (k : ℕ) → k < 65 → StreamsKept s.limits.min (max_at s k) (streams k))
+      (held : (k : ℕ) → k < 65 → OnsetKept s.limits.min (max_at s k) (onset k))
+      (least : (k : ℕ) → k < 65 → (onset k).onset ≡ s.limits.min)
       (waiting : (k : ℕ) → k < 65 → inner_band k ≡ false → (onset k).waits ≡ true)
     where
       shown-kept : ChannelKept s record-shown
@@ -82,12 +82,12 @@ module _ (s : SubbandSettings) (n : ℕ) (sums : ℕ → Sums) (streams : ℕ �
             long = long-from n sums (λ k. streams (shown_band k)) (compensated_shown onset);
             sums = heard;
             streams = λ k h.
-                subst (StreamsKept s.min (max_at s k)) (sym (streams-shown k h))
-                (rw (← max-shown s.max_l s.max_h k) (in_range (shown_band k) (shown-below k h)));
+                subst (StreamsKept s.limits.min (max_at s k)) (sym (streams-shown k h))
+                (rw (← max-shown s.limits.max_l s.limits.max_h k) (in_range (shown_band k) (shown-below k h)));
             onset = λ k h.
-                subst (OnsetKept s.min (max_at s k)) (sym (onset-shown k h))
+                subst (OnsetKept s.limits.min (max_at s k)) (sym (onset-shown k h))
                 (record {
-                  compensated = rw (← max-shown s.max_l s.max_h k) (held (shown_band k) (shown-below k h)).compensated;
+                  compensated = rw (← max-shown s.limits.max_l s.limits.max_h k) (held (shown_band k) (shown-below k h)).compensated;
                   onset = (held k h).onset;
                   hold = (held k h).hold;
                 });
@@ -102,10 +102,10 @@ module _ (s : SubbandSettings) (n : ℕ) (sums : ℕ → Sums) (streams : ℕ �
             outer = λ k h out. ap (λ (o : Onset). o.waits) (onset-shown k h) ∙ waiting k h out;
           }
 
-pub fresh_kept : (s : SubbandSettings) → AllInOrder s.min s.max_l s.max_h → ChannelKept s (fresh s.min)
+pub fresh_kept : (s : SubbandSettings) → AllInOrder s.limits.min s.limits.max_l s.limits.max_h → ChannelKept s (fresh s.limits.min)
 unfolding fresh record-shown compensated_shown
 fresh_kept s limits =
-    shown-kept s 0 (λ k. fresh_sums) (λ k. fresh_streams s.min) (λ k. fresh_onset s.min) (fresh-sums s.min)
+    shown-kept s 0 (λ k. fresh_sums) (λ k. fresh_streams s.limits.min) (λ k. fresh_onset s.limits.min) (fresh-sums s.limits.min)
     (λ k h. record { plain = min-between (limits k); uncapped = min-between (uncapped-in-order (limits k)) })
     (λ k h. record { compensated = min-between (limits k); onset = min-between (limits k); hold = refl })
     (λ k h. refl)
@@ -126,16 +126,16 @@ module _ (s : SubbandSettings) (b : Block) (c : SubbandChannel) where
   unfolding onset_after
   outer-stays k out = rw (out, and-false s.onset_detection)
 
-  module _ (limits : AllInOrder s.min s.max_l s.max_h) (ok : BlockOk b) (kept : ChannelKept s c) where
+  module _ (limits : AllInOrder s.limits.min s.limits.max_l s.limits.max_h) (ok : BlockOk b) (kept : ChannelKept s c) where
     ratio-plus :
         (k : ℕ) → k < 65 → learns k (sums_after s b c k).residual ≡ true
         → Signed false (ratio (sums_after s b c k).capture (sums_after s b c k).residual)
     ratio-plus k h e = ratio-signed (and_right (inner_band k) (has_ratio (sums_after s b c k).residual) e) (sums-after s b c ok kept.sums k h)
 
-    streams-kept : (k : ℕ) → k < 65 → StreamsKept s.min (max_at s k) (streams_after s b c k)
+    streams-kept : (k : ℕ) → k < 65 → StreamsKept s.limits.min (max_at s k) (streams_after s b c k)
     unfolding streams_after streams_learnt_at
     streams-kept k h =
-        let Kept : Streams → Type 0 = StreamsKept s.min (max_at s k) in
+        let Kept : Streams → Type 0 = StreamsKept s.limits.min (max_at s k) in
         cond_has Kept (is_sixth s b c)
         (λ six.
         cond_has Kept (learns k (sums_after s b c k).residual)
@@ -143,10 +143,10 @@ module _ (s : SubbandSettings) (b : Block) (c : SubbandChannel) where
         (λ e. kept.streams k h))
         (λ few. kept.streams k h)
 
-    onset-kept : (k : ℕ) → k < 65 → OnsetKept s.min (max_at s k) (onset_after s b c k)
+    onset-kept : (k : ℕ) → k < 65 → OnsetKept s.limits.min (max_at s k) (onset_after s b c k)
     unfolding onset_after onset_learnt_at
     onset-kept k h =
-        let Kept : Onset → Type 0 = OnsetKept s.min (max_at s k) in
+        let Kept : Onset → Type 0 = OnsetKept s.limits.min (max_at s k) in
         cond_has Kept (hold_falls s.onset_detection k)
         (λ on. one-block-less-kept (limits k)
         (cond_has Kept (is_sixth s b c)

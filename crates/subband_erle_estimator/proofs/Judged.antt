@@ -1,5 +1,5 @@
 -- What the judging of a state tells.
-use mathlib.Core.Path.{◌≡◌, refl}
+use mathlib.Core.Path.{◌≡◌}
 use mathlib.Core.Bool.{true}
 use Prim.Native.Nat.{ℕ, ◌≤◌, ◌<◌}
 use native.Mathlib.Omega.{arith}
@@ -9,10 +9,6 @@ use lib.ListN.{length, get_or, take}
 use lib.Seq.{get_or-take, length-take-le}
 use Rattle.aec3_common.specs.Binary32.{sums_ok}
 use Rattle.std.specs.List.{list_all}
-use Rattle.std.specs.Prelude.{Result, Ok, Err, is_ok}
-use Rattle.aec3_common.specs.declared.refusal.Refusal.{Refusal}
-use Rattle.aec3_common.specs.declared.refusal.Refusal.TheVariants.{BadLimits, BadChannelCount, BadSections, BadRing, BadLength, BadValue, BadLog2Input, BadOffset, BadPlace, BadFrame, UnknownKind, BadRecordLength, BadFlagOrBand, BadState, OtherChannelCount, NoSettings, SecondSettings}
-use Rattle.aec3_common.specs.Answers.{number_of}
 use Rattle.aec3_common.specs.Refusal.{accepted}
 use Rattle.aec3_common.proofs.Calls.{few-channels}
 use Rattle.aec3_common.proofs.Choices.{and_left, and_right, each-of-three}
@@ -22,31 +18,10 @@ use Rattle.subband_erle_estimator.specs.declared.SubbandErleEstimator.{SubbandEr
 use Rattle.subband_erle_estimator.specs.Channel.{all_points}
 use Rattle.subband_erle_estimator.specs.Subband.{settings_refusal, channel_ok, state_ok, no_channel, channel_at}
 
--- an outcome has number 0 where it is none of the refusals
-pub outcome-told : (r : Result (Unit {0}) Refusal) → eqb (number_of r) accepted ≡ is_ok r
-outcome-told (Ok x) = refl
-outcome-told (Err BadLimits) = refl
-outcome-told (Err BadChannelCount) = refl
-outcome-told (Err BadSections) = refl
-outcome-told (Err BadRing) = refl
-outcome-told (Err BadLength) = refl
-outcome-told (Err BadValue) = refl
-outcome-told (Err BadLog2Input) = refl
-outcome-told (Err BadOffset) = refl
-outcome-told (Err BadPlace) = refl
-outcome-told (Err BadFrame) = refl
-outcome-told (Err UnknownKind) = refl
-outcome-told (Err BadRecordLength) = refl
-outcome-told (Err BadFlagOrBand) = refl
-outcome-told (Err BadState) = refl
-outcome-told (Err OtherChannelCount) = refl
-outcome-told (Err NoSettings) = refl
-outcome-told (Err SecondSettings) = refl
-
 -- settings that pass have at most four channels
 pub settings-few : (s : SubbandSettings) → eqb (settings_refusal s) accepted ≡ true → s.num_capture_channels ≤ 4
 unfolding settings_refusal
-settings-few s ok = few-channels s.min s.max_l s.max_h s.num_capture_channels (eqb-true _ _ ok)
+settings-few s ok = few-channels s.limits.min s.limits.max_l s.limits.max_h s.num_capture_channels (eqb-true _ _ ok)
 
 -- a state that passes has at most four channels
 pub state-few : (s : SubbandErleEstimator) → state_ok s ≡ true → s.settings.num_capture_channels ≤ 4

@@ -20,7 +20,7 @@ pub record ChannelResting (r : ℕ) (before c : SubbandChannel) : Type 0 where
   pub onset : (k : ℕ) → k < 65 → inner_band k ≡ true → Resting r (onset_at c k)
   pub streams : (k : ℕ) → k < 65 → streams_at c k ≡ streams_at before k
 
-module _ (s : SubbandSettings) (limits : AllInOrder s.min s.max_l s.max_h) (c : SubbandChannel) (kept : ChannelKept s c) where
+module _ (s : SubbandSettings) (limits : AllInOrder s.limits.min s.limits.max_l s.limits.max_h) (c : SubbandChannel) (kept : ChannelKept s c) where
   module _ (b : Block) (on : s.onset_detection ≡ true) (off : b.converged ≡ false) (k : ℕ) (h : k < 65) where
     -- an unconverged block leaves the streams
     quiet-streams : streams_at (channel_after s b c) k ≡ streams_at c k
@@ -30,7 +30,7 @@ module _ (s : SubbandSettings) (limits : AllInOrder s.min s.max_l s.max_h) (c : 
         ∙ rw off (sym (kept.copied k h).streams)
 
     -- and lets the holds of bands 1 to 63 fall
-    quiet-onset : inner_band k ≡ true → onset_at (channel_after s b c) k ≡ one_block_less s.min (onset_at c k)
+    quiet-onset : inner_band k ≡ true → onset_at (channel_after s b c) k ≡ one_block_less s.limits.min (onset_at c k)
     unfolding channel_after compensated_shown onset_after
     quiet-onset inner =
         onset-from (points_after s b c) (sums_after s b c) _ _ k h
@@ -49,7 +49,7 @@ module _ (s : SubbandSettings) (limits : AllInOrder s.min s.max_l s.max_h) (c : 
 
   module _ {before : SubbandChannel} (resting : ChannelResting zero before c) where
     -- at rest every band shows the minimum, and waits
-    pub rest-compensated : (k : ℕ) → k < 65 → (onset_at c k).compensated ≡ s.min
+    pub rest-compensated : (k : ℕ) → k < 65 → (onset_at c k).compensated ≡ s.limits.min
     rest-compensated k h =
         let j = shown_band k in
         let below = shown-below k h in

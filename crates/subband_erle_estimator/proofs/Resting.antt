@@ -88,7 +88,7 @@ module _ (g : SubbandSettings) (ok : SettingsOk g) (on : g.onset_detection ≡ t
 
 -- ---- the claim
 
-module _ (g : SubbandSettings) (in_binary32 : InBinary32 g.min g.max_l g.max_h) (e : settings_refusal g ≡ accepted) where
+module _ (g : SubbandSettings) (in_binary32 : InBinary32 g.limits.min g.limits.max_l g.limits.max_h) (e : settings_refusal g ≡ accepted) where
   start : SubbandErleEstimator
   start = started g
 

@@ -1,42 +1,27 @@
 -- An update channel by channel.
-use mathlib.Core.Path.{◌≡◌, refl, ◌∙◌}
-use mathlib.Core.Bool.{Bool, true, false}
+use mathlib.Core.Path.{◌≡◌, ap}
+use mathlib.Core.Bool.{Bool}
 use mathlib.Core.List.{List}
 use Prim.Native.Nat.{ℕ, ◌+◌, ◌≤◌, ◌<◌}
 use lib.Ieee.{Float}
-use lib.ListN.{get_or, set}
-use Rattle.aec3_common.specs.Spectra.{part}
+use lib.ListN.{set}
 use Rattle.aec3_common.proofs.Calls.{UpdateOk}
 use Rattle.aec3_common.proofs.Tables.{Stored, stored_more, stored-firsts}
 use Rattle.subband_erle_estimator.specs.declared.channel.SubbandChannel.{SubbandChannel}
-use Rattle.subband_erle_estimator.specs.declared.settings.SubbandSettings.{SubbandSettings}
 use Rattle.subband_erle_estimator.specs.declared.SubbandErleEstimator.{SubbandErleEstimator}
-use Rattle.subband_erle_estimator.specs.Channel.{unconverged_block, sums_after, streams_after, onset_after, channel_after}
+use Rattle.subband_erle_estimator.specs.Channel.{channel_after}
 use Rattle.subband_erle_estimator.specs.Subband.{state_ok, no_channel, channel_at, block_of, updated}
-
--- where a channel stands unconverged its powers are not looked at
-pub quiet-any :
-    (g : SubbandSettings) (c : SubbandChannel) (x y e : List Float)
-    → channel_after g unconverged_block c ≡ channel_after g (record { converged = false; render = x; capture = y; residual = e }) c
-unfolding channel_after sums_after streams_after onset_after
-quiet-any g c x y e = refl
 
 -- a channel after the update
 module _ (s : SubbandErleEstimator) (converged : List Bool) (x y e : List Float) where
   unfoldable pub channel_of : ℕ → SubbandChannel
   channel_of ch = channel_after s.settings (block_of converged x y e ch) (channel_at s ch)
 
-  pub converged-channel :
-      (ch : ℕ) (c : SubbandChannel) → get_or converged ch false ≡ true → c ≡ channel_at s ch
-      → channel_after s.settings (record { converged = true; render = x; capture = part y ch; residual = part e ch }) c ≡ channel_of ch
+  pub stepped-channel :
+      (ch : ℕ) (c : SubbandChannel) → c ≡ channel_at s ch
+      → channel_after s.settings (block_of converged x y e ch) c ≡ channel_of ch
   unfolding channel_of
-  converged-channel ch c on same = simp (on, same)
-
-  pub quiet-channel :
-      (ch : ℕ) (c : SubbandChannel) → get_or converged ch false ≡ false → c ≡ channel_at s ch
-      → channel_after s.settings unconverged_block c ≡ channel_of ch
-  unfolding channel_of
-  quiet-channel ch c off same = quiet-any s.settings c x (part y ch) (part e ch) ∙ simp (off, same)
+  stepped-channel ch c same = ap (channel_after s.settings (block_of converged x y e ch)) same
 
   -- what the loop has done at ch
   pub record Updating (r : SubbandErleEstimator) (ch : ℕ) : Type 0 where

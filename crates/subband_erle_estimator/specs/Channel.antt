@@ -70,20 +70,20 @@ unconverged_block = record { converged = false; render = []; capture = []; resid
 
 -- the band's maximum
 abbrev pub max_at : SubbandSettings → ℕ → Float
-max_at s k = max_erle s.max_l s.max_h k
+max_at s k = max_erle s.limits.max_l s.limits.max_h k
 
 -- For bands 1 to 63 with residual sum above 0, the ratio of the sums is new.
 module _ (s : SubbandSettings) (k : ℕ) (sums : Sums) where
   unfoldable pub streams_learnt_at : Streams → Streams
   streams_learnt_at held =
       cond (learns k sums.residual)
-      (streams_learnt s.min (max_at s k) (ratio sums.capture sums.residual) sums.low held)
+      (streams_learnt s.limits.min (max_at s k) (ratio sums.capture sums.residual) sums.low held)
       held
 
   unfoldable pub onset_learnt_at : Onset → Onset
   onset_learnt_at held =
       cond (learns k sums.residual)
-      (onset_learnt s.min (max_at s k) (ratio sums.capture sums.residual) sums.low held)
+      (onset_learnt s.limits.min (max_at s k) (ratio sums.capture sums.residual) sums.low held)
       held
 
 -- after six points the ratio is looked at
@@ -118,7 +118,7 @@ module _ (s : SubbandSettings) (b : Block) (c : SubbandChannel) where
   onset_after k =
       let held = onset_at c k in
       cond (hold_falls s.onset_detection k)
-      (one_block_less s.min (cond is_sixth (onset_learnt_at s k (sums_after k) held) held))
+      (one_block_less s.limits.min (cond is_sixth (onset_learnt_at s k (sums_after k) held) held))
       held
 
   -- Bands 0 and 64 copy 1 and 63 in the three streams.

@@ -52,14 +52,14 @@ waits_of s ch k = (onset_at (channel_at s ch) k).waits
 -- plain, compensated and uncapped ERLE are numbers, not below the minimum nor above the band's maximum, which for the
 -- uncapped one is 100,000
 pub record InRange (settings : SubbandSettings) (s : SubbandErleEstimator) (ch k : ℕ) : Type 0 where
-  pub plain : number_from settings.min (max_at settings k) (plain_of s ch k) ≡ true
-  pub compensated : number_from settings.min (max_at settings k) (compensated_of s ch k) ≡ true
-  pub uncapped : number_from settings.min greatest_erle (uncapped_of s ch k) ≡ true
+  pub plain : number_from settings.limits.min (max_at settings k) (plain_of s ch k) ≡ true
+  pub compensated : number_from settings.limits.min (max_at settings k) (compensated_of s ch k) ≡ true
+  pub uncapped : number_from settings.limits.min greatest_erle (uncapped_of s ch k) ≡ true
 
 -- the compensated ERLE is exactly the minimum, the band waits for an onset, and plain and uncapped ERLE have the bits that
 -- they had before
 pub record AtRest (settings : SubbandSettings) (before s : SubbandErleEstimator) (ch k : ℕ) : Type 0 where
-  pub compensated : compensated_of s ch k ≡ settings.min
+  pub compensated : compensated_of s ch k ≡ settings.limits.min
   pub waits : waits_of s ch k ≡ true
   pub plain : plain_of s ch k ≡ plain_of before ch k
   pub uncapped : uncapped_of s ch k ≡ uncapped_of before ch k
@@ -75,7 +75,7 @@ pub record AtRest (settings : SubbandSettings) (before s : SubbandErleEstimator)
 -- "At the list's end the definition of demand 2 gives" -> run (started settings) calls, by answer
 -- "in every channel and band" -> in_range, each ch below the channel count and k below 65
 -- "a plain, an uncapped and an onset-compensated ERLE" -> the fields of InRange, of plain_of, uncapped_of, compensated_of
--- "that are numbers, not below the minimum nor above" -> number_from settings.min
+-- "that are numbers, not below the minimum nor above" -> number_from settings.limits.min
 -- "their band's maximum" -> max_at, in InRange's plain and compensated
 -- "which for the uncapped one is 100,000" -> greatest_erle, in InRange's uncapped
 -- "If onset detection is on" -> settings.onset_detection ≡ true, in at_rest

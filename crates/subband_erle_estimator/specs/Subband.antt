@@ -20,9 +20,7 @@ use Rattle.subband_erle_estimator.specs.Channel.{Block, all_points, fresh, chann
 abbrev pub subband_settings : ErleSettings → SubbandSettings
 subband_settings s =
     record {
-      min = s.min;
-      max_l = s.max_l;
-      max_h = s.max_h;
+      limits = s.limits;
       onset_detection = s.onset_detection;
       num_capture_channels = s.num_capture_channels;
     }
@@ -31,7 +29,7 @@ subband_settings s =
 
 -- the first of 1 and 2 that the settings break, or 0
 unfoldable pub settings_refusal : SubbandSettings → ℕ
-settings_refusal s = limits_and_channels_refusal s.min s.max_l s.max_h s.num_capture_channels
+settings_refusal s = limits_and_channels_refusal s.limits.min s.limits.max_l s.limits.max_h s.num_capture_channels
 
 -- a point count of 0 to 6, and held sums within 0 to 2^110
 unfoldable pub channel_ok : SubbandChannel → Bool
@@ -56,7 +54,7 @@ state_refusal s = unless (state_ok s) bad_state accepted
 
 -- a start fills all four records
 unfoldable pub started : SubbandSettings → SubbandErleEstimator
-started s = record { settings = s; channels = tab max_capture_channels (λ ch. fresh s.min) }
+started s = record { settings = s; channels = tab max_capture_channels (λ ch. fresh s.limits.min) }
 
 -- The answer: what a start gives, or the refusal.
 unfoldable pub start_answer : SubbandSettings → Result SubbandErleEstimator ℕ

@@ -2,7 +2,7 @@
 ghost use Rattle.std.specs.Prelude.{◌≡◌, true, ◌≤◌, length};
 ghost use Rattle.subband_erle_estimator.specs.Channel.{points_with, fresh, unconverged_block, channel_after};
 ghost use Rattle.subband_erle_estimator.specs.Subband.{channel_ok};
-ghost use Rattle.subband_erle_estimator.specs.Steps.{learnt_by};
+ghost use Rattle.subband_erle_estimator.specs.Steps.{sums_cleared, learnt_by};
 
 use crate::settings::SubbandSettings;
 use aec3_common::spectra::copy_ends;
@@ -13,6 +13,8 @@ use erle_bands::sums::{add_powers, note_low_energy, ratios};
 
 pub const POINTS_TO_ACCUMULATE: usize = 6;
 
+// Arrays of 65, one for each value that a band holds: the project asks for this form of a channel's record, and each step goes over one of them,
+// not over all. No invariant bounds the points: a state with more than six must be a value too, since number 20 judges it.
 #[derive(Clone, Copy, Debug)]
 pub struct SubbandChannel {
     pub num_points: usize,
@@ -113,23 +115,37 @@ impl SubbandChannel {
         requires x2_len { (length x2.now ≡ 65) × (length y2.now ≡ 65) × (length e2.now ≡ 65) }
         ensures { result ≡ channel_after settings (record { converged = true; render = x2.now; capture = y2.now; residual = e2.now }) self }
     {
-        self.update_in_place(settings, x2, y2, e2);
+        self.step_in_place(settings, true, x2, y2, e2);
         self
     }
 
-    // The same of a record that is lent: each method that takes one and gives it back is a copy.
-    pub fn update_in_place(&mut self, settings: SubbandSettings, x2: &[f32], y2: &[f32], e2: &[f32])
+    // One block of a record that is lent: a converged channel adds the block's powers, and on a sixth point learns; every channel decays.
+    // In place, since each method that takes a record and gives it back is a copy of 2 KB. The powers are slices beside the flag, here and in
+    // `update`, and not a struct: the project hands a channel's part of a lent slice on as a slice.
+    pub fn step_in_place(
+        &mut self,
+        settings: SubbandSettings,
+        converged: bool,
+        x2: &[f32],
+        y2: &[f32],
+        e2: &[f32],
+    )
         requires num_points_bound { self.old.num_points ≤ 6 }
         requires x2_len { (length x2.now ≡ 65) × (length y2.now ≡ 65) × (length e2.now ≡ 65) }
-        ensures { self.new ≡ channel_after settings (record { converged = true; render = x2.now; capture = y2.now; residual = e2.now }) self.old }
+        ensures { self.new ≡ channel_after settings (record { converged = converged; render = x2.now; capture = y2.now; residual = e2.now }) self.old }
     {
-        let anew = self.num_points == POINTS_TO_ACCUMULATE;
-        add_powers(&mut self.y2, y2, anew);
-        add_powers(&mut self.e2, e2, anew);
-        note_low_energy(&mut self.low_render_energy, x2, anew);
-        self.num_points = points_with(self.num_points);
-        if self.num_points == POINTS_TO_ACCUMULATE {
-            self.learn(settings);
+        if converged {
+            let points = points_with(self.num_points);
+            if self.num_points == POINTS_TO_ACCUMULATE {
+                self.clear_sums();
+            }
+            add_powers(&mut self.y2, y2);
+            add_powers(&mut self.e2, e2);
+            note_low_energy(&mut self.low_render_energy, x2);
+            self.num_points = points;
+            if points == POINTS_TO_ACCUMULATE {
+                self.learn(settings);
+            }
         }
         self.decay_in_place(settings);
     }
@@ -142,23 +158,33 @@ impl SubbandChannel {
         self
     }
 
-    // The same of a record that is lent. A converged channel's update ends with it.
+    // The same of a record that is lent.
     pub fn decay_in_place(&mut self, settings: SubbandSettings)
         ensures { self.new ≡ channel_after settings unconverged_block self.old }
     {
-        let on = settings.onset_detection;
-        lower_holds(&mut self.hold_counters, on);
-        decay_compensated(
-            &mut self.erle_onset_compensated,
-            &self.erle_onsets,
-            &self.hold_counters,
-            settings.min,
-            on,
-        );
-        wait_again(&mut self.coming_onset, &self.hold_counters, on);
+        if settings.onset_detection {
+            lower_holds(&mut self.hold_counters);
+            decay_compensated(
+                &mut self.erle_onset_compensated,
+                &self.erle_onsets,
+                &self.hold_counters,
+                settings.limits.min,
+            );
+            wait_again(&mut self.coming_onset, &self.hold_counters);
+        }
         copy_ends(&mut self.erle);
         copy_ends(&mut self.erle_onset_compensated);
         copy_ends(&mut self.erle_unbounded);
+    }
+
+    // The sums begin again.
+    #[tactic(auto, unfolding(crate::specs::Steps::sums_cleared, aec3_common::specs::Lists::tab))]
+    fn clear_sums(&mut self)
+        ensures { self.new ≡ sums_cleared self.old }
+    {
+        self.y2 = [0.0; 65];
+        self.e2 = [0.0; 65];
+        self.low_render_energy = [false; 65];
     }
 
     // What the bands learn from the ratios of the sums.
@@ -167,13 +193,13 @@ impl SubbandChannel {
     {
         let news = NewRatios {
             ratios: &ratios(&self.y2, &self.e2),
-            e2: &self.e2,
             low: &self.low_render_energy,
         };
-        news.move_stream(&mut self.erle, settings.limits());
+        let limits = settings.limits;
+        news.move_stream(&mut self.erle, limits);
         news.move_stream(&mut self.erle_unbounded, settings.uncapped_limits());
         if settings.onset_detection {
-            news.move_stream(&mut self.erle_onset_compensated, settings.limits());
+            news.move_stream(&mut self.erle_onset_compensated, limits);
             news.stop_waiting(&mut self.coming_onset);
             news.hold_again(&mut self.hold_counters);
         }

@@ -2,16 +2,15 @@
 ghost use Rattle.std.specs.Prelude.{◌≡◌};
 ghost use Rattle.aec3_common.specs.Answers.{number_of};
 ghost use Rattle.subband_erle_estimator.specs.Subband.{subband_settings, settings_refusal};
-ghost use Rattle.subband_erle_estimator.specs.Steps.{limits_of, uncapped_limits};
+ghost use Rattle.subband_erle_estimator.specs.Steps.{uncapped_limits};
 
 use aec3_common::settings::{GREATEST_ERLE, judge_limits_and_channels};
 use aec3_common::{ErleLimits, ErleSettings, Refusal};
 
 #[derive(Clone, Copy, Debug)]
 pub struct SubbandSettings {
-    pub min: f32,
-    pub max_l: f32,
-    pub max_h: f32,
+    // Of the plain and the compensated stream; the uncapped one has others.
+    pub limits: ErleLimits,
     pub onset_detection: bool,
     pub num_capture_channels: usize,
 }
@@ -22,9 +21,7 @@ impl From<ErleSettings> for SubbandSettings {
 
     fn from(settings: ErleSettings) -> SubbandSettings {
         SubbandSettings {
-            min: settings.min,
-            max_l: settings.max_l,
-            max_h: settings.max_h,
+            limits: settings.limits,
             onset_detection: settings.onset_detection,
             num_capture_channels: settings.num_capture_channels,
         }
@@ -37,18 +34,7 @@ impl SubbandSettings {
     pub fn judge(self) -> Result<(), Refusal>
         ensures { number_of result ≡ settings_refusal self }
     {
-        judge_limits_and_channels(self.limits(), self.num_capture_channels)
-    }
-
-    // The limits of the plain and the compensated stream.
-    pub fn limits(self) -> ErleLimits
-        ensures { result ≡ limits_of self }
-    {
-        ErleLimits {
-            min: self.min,
-            max_l: self.max_l,
-            max_h: self.max_h,
-        }
+        judge_limits_and_channels(self.limits, self.num_capture_channels)
     }
 
     // The limits of the uncapped stream.
@@ -56,7 +42,7 @@ impl SubbandSettings {
         ensures { result ≡ uncapped_limits self }
     {
         ErleLimits {
-            min: self.min,
+            min: self.limits.min,
             max_l: GREATEST_ERLE,
             max_h: GREATEST_ERLE,
         }

@@ -6,27 +6,25 @@ use Prim.Native.Nat.{ℕ, ◌+◌, ◌-◌, ◌≤◌}
 use native.Mathlib.Omega.{arith}
 use borrow.Author.Tests.{eq-eqb}
 use lib.ListN.{length, take, drop, length-drop}
-use Rattle.std.specs.Prelude.{Some, None}
 use Rattle.aec3_common.specs.Refusal.{accepted}
 use Rattle.subband_erle_estimator.specs.Subband.{settings_refusal}
 use Rattle.subband_erle_estimator.proofs.Judged.{settings-few}
 use Rattle.erle_estimator.specs.Parts.{subband_settings}
 use Rattle.erle_estimator.specs.Erle.{after_reset}
-use Rattle.trace_records.specs.Frames.{length_in, framed, record_in, frame_length}
+use Rattle.trace_records.specs.Frames.{length_in, framed, record_in}
 use Rattle.trace_records.specs.Records.{Record, settings, block, reset, unknown, erle_settings}
 use Rattle.trace_records.specs.Judge.{content_refusal, record_refusal, refusal_ahead}
-use Rattle.trace_records.proofs.Framing.{framed-room, no-length-framed}
+use Rattle.trace_records.proofs.Framing.{framed-room}
 use Rattle.trace_records.proofs.Judged.{both-passed, unknown-refused}
 use Rattle.trace_state.specs.declared.Trace.{Trace}
-use Rattle.trace_state.specs.declared.Stop.TheVariants.{NoRecord, NoRoom, Refused, BadState}
 use Rattle.trace_state.specs.Apply.{channels_of, standing_of, trace_ok, next_of}
 use Rattle.trace_state.specs.Listing.{record_at, refusal_at, refused_at}
-use Rattle.trace_state.specs.Feed.{Walk, Stopped, with_line, finds_room, refused_end, feed_from, fed}
+use Rattle.trace_state.specs.Feed.{Walk, Stopped, with_line, finds_room, refused_end, feed_from, fed, lacks_record, lacks_room, refused_under, state_refused}
 use Rattle.trace_blocks.specs.Steps.{Ready, Ran}
 use Rattle.trace_state.specs.Apply.{is_block}
 use Rattle.trace_state.proofs.Running.{due-next}
 use Rattle.trace_state.proofs.Turning.{fed-taken, fed-refused, fed-nothing}
-use Rattle.trace_blocks.proofs.Frames.{Whole, whole_is, lent-ahead, record-ahead}
+use Rattle.trace_blocks.proofs.Frames.{record-size, lent-ahead}
 use Rattle.trace_blocks.proofs.Ready.{ready-started}
 
 -- a state that 20 lets pass is fed
@@ -39,7 +37,7 @@ fed-passing t s ended d at ok = rw ok
 -- and one that it turns away is not
 pub fed-bad :
     (t : Trace) (s : List ℕ) (ended : Bool) (d : List ℕ) (at : ℕ) → trace_ok t ≡ false
-    → fed t s ended d at ≡ record { walk = record { state = t; used = 0; out = d; at = at }; stop = BadState }
+    → fed t s ended d at ≡ record { walk = record { state = t; used = 0; out = d; at = at }; stop = state_refused }
 unfolding fed
 fed-bad t s ended d at bad = rw bad
 
@@ -50,7 +48,7 @@ refused-used w n = go (finds_room w (refused_at w.state n))
   where
     go :
         (b : Bool)
-        → (cond {A = Stopped} b (record { walk = with_line w (refused_at w.state n) w.state; stop = Refused n }) (record { walk = w; stop = NoRoom })).walk.used
+        → (cond {A = Stopped} b (record { walk = with_line w (refused_at w.state n) w.state; stop = refused_under n }) (record { walk = w; stop = lacks_room })).walk.used
         ≡ w.used
     go true = refl
     go false = refl
@@ -88,9 +86,9 @@ module _ {s : List ℕ} {ended : Bool} {from now : Walk} (u : Underway s ended f
   pub underway-record :
       {l : ℕ} {next : Trace} → now.state.rows_due ≡ 0 → framed ahead ≡ true → refusal_at now.state (record_in ahead) ≡ accepted
       → is_block (record_at now.state (record_in ahead)) ≡ false → l ≡ length_in ahead → next ≡ next_of now.state (record_at now.state (record_in ahead))
-      → Underway s ended from (record { state = next; used = now.used + 4 + l; out = now.out; at = now.at })
+      → Underway s ended from (record { state = next; used = now.used + (4 + l); out = now.out; at = now.at })
   underway-record {l} {next} none whole ok other long is =
-      let place : now.used + (4 + length_in ahead) ≡ now.used + 4 + l = omega (arith, long) in
+      let place : now.used + (4 + length_in ahead) ≡ now.used + (4 + l) = omega (arith, long) in
       record {
         same =
             u.same ∙ fed-taken s ended now none whole ok
@@ -130,41 +128,44 @@ module _
         fine : refusal_ahead (standing_of now.state) ended rest ≡ accepted
         fine = sym (passes ∙ number-is)
 
-        length-is : frame_length lent ≡ frame_length rest
-        length-is = ap frame_length (lent-ahead s now.used)
+        framed-is : framed lent ≡ framed rest
+        framed-is = ap framed (lent-ahead s now.used)
 
-        pub ends-cut : None ≡ frame_length lent → fed t s ended d at ≡ record { walk = now; stop = NoRecord }
-        ends-cut cut = ends_so (fed-nothing s ended now none fine (no-length-framed rest (cut ∙ length-is)))
+        pub ends-cut : framed lent ≡ false → fed t s ended d at ≡ record { walk = now; stop = lacks_record }
+        ends-cut cut = ends_so (fed-nothing s ended now none fine (sym framed-is ∙ cut))
 
         -- a whole record ahead, which is no block
-        module _ {l : ℕ} (long : Some l ≡ frame_length lent) (no_block : framed rest ≡ true → is_block (record_at now.state (record_in rest)) ≡ true → refusal_at now.state (record_in rest) ≡ accepted → ⊥) where
-          whole : Whole rest l
-          whole = whole_is rest (long ∙ length-is)
+        module _
+            {bytes : List ℕ} (there : (framed lent ≡ true) × (bytes ≡ record_in lent))
+            (no_block : framed rest ≡ true → is_block (record_at now.state (record_in rest)) ≡ true → refusal_at now.state (record_in rest) ≡ accepted → ⊥)
+          where
+            whole : framed rest ≡ true
+            whole = sym framed-is ∙ there.0
 
-          pub ends-within : now.used + 4 + l ≤ length s
-          ends-within = omega (arith, whole.room, length-drop now.used s, u.within)
+            bytes-are : bytes ≡ record_in rest
+            bytes-are = there.1 ∙ ap record_in (lent-ahead s now.used)
 
-          abbrev bytes : List ℕ
-          bytes = take (now.used + 4 + l - (now.used + 4)) (drop (now.used + 4) s)
+            size : length bytes ≡ length_in rest
+            size = ap length bytes-are ∙ record-size rest whole
 
-          bytes-are : bytes ≡ record_in rest
-          bytes-are = record-ahead s now.used whole.long
+            pub ends-within : now.used + (4 + length bytes) ≤ length s
+            ends-within = omega (arith, size, framed-room rest whole, length-drop now.used s, u.within)
 
-          passed : refusal_at now.state (record_in rest) ≡ accepted
-          unfolding refusal_ahead
-          passed = rw whole.whole at fine
+            passed : refusal_at now.state (record_in rest) ≡ accepted
+            unfolding refusal_ahead
+            passed = rw whole at fine
 
-          other : is_block (record_at now.state (record_in rest)) ≡ false
-          other = go (is_block (record_at now.state (record_in rest))) refl
-            where
-              go : (b : Bool) → is_block (record_at now.state (record_in rest)) ≡ b → b ≡ false
-              go true e = absurd (no_block whole.whole e passed)
-              go false e = refl
+            other : is_block (record_at now.state (record_in rest)) ≡ false
+            other = go (is_block (record_at now.state (record_in rest))) refl
+              where
+                go : (b : Bool) → is_block (record_at now.state (record_in rest)) ≡ b → b ≡ false
+                go true e = absurd (no_block whole e passed)
+                go false e = refl
 
-          pub no-block-lent : is_block (record_at now.state bytes) ≡ false
-          no-block-lent = rw bytes-are other
+            pub no-block-lent : is_block (record_at now.state bytes) ≡ false
+            no-block-lent = rw bytes-are other
 
-          pub underway-next :
-              {next : Trace} → next ≡ next_of now.state (record_at now.state bytes)
-              → Underway s ended (record { state = t; used = 0; out = d; at = at }) (record { state = next; used = now.used + 4 + l; out = now.out; at = now.at })
-          underway-next next-is = underway-record u none whole.whole passed other whole.long (rw bytes-are at next-is)
+            pub underway-next :
+                {next : Trace} → next ≡ next_of now.state (record_at now.state bytes)
+                → Underway s ended (record { state = t; used = 0; out = d; at = at }) (record { state = next; used = now.used + (4 + length bytes); out = now.out; at = now.at })
+            underway-next next-is = underway-record u none whole passed other size (rw bytes-are at next-is)

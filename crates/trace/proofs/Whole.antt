@@ -7,26 +7,27 @@ use native.Mathlib.Omega.{arith}
 use borrow.Author.Tests.{le-leb, lt-leb, leb-false}
 use lib.Dec.{leb}
 use lib.ListN.{length, drop, length-append}
-use Rattle.encoding.specs.Text.{written, after}
-use Rattle.encoding.proofs.Writing.{Wrote, wrote_none, wrote_then, wrote-long}
-use Rattle.trace_text.specs.Text.{Item, line_of, spaced, header, line, lines}
+use Rattle.std.specs.Prelude.{None}
+use Rattle.encoding.specs.Text.{written, place_behind}
+use Rattle.encoding.proofs.Writing.{Wrote, full, wrote_none, wrote_then, wrote-long}
+use Rattle.trace_text.specs.Text.{Item, header, line, lines}
 use Rattle.trace_text.proofs.Lines.{lines-append}
-use Rattle.trace_state.specs.declared.Stop.{Stop}
-use Rattle.trace_state.specs.declared.Stop.TheVariants.{NoRecord, NoRoom, Refused, BadState}
 use Rattle.trace_state.specs.Apply.{beginning}
 use Rattle.trace_state.specs.Listing.{items_in, listing, fitting, fitting_listing}
-use Rattle.trace_state.specs.Feed.{Walk, Stopped, fed, items_ahead, items_left, TooLong, Lists, GivesListing}
-use Rattle.trace_state.proofs.Room.{room-none}
+use Rattle.trace_state.specs.Feed.{Walk, Stopped, fed, items_ahead, items_left, TooLong, Lists, GivesListing, Why, lacks_record, lacks_room, refused_under, state_refused}
 use Rattle.trace_state.proofs.Running.{beginning-ok}
 use Rattle.trace_state.proofs.Ahead.{due-none}
 use Rattle.trace_state.proofs.Fitting.{fitting-cut, fitting-all}
 use Rattle.trace_state.proofs.Listed.{gives-listing}
 use Rattle.trace.specs.declared.listing.Listed.{Listed}
-use Rattle.trace.specs.Answers.{no_room, listed_answer, listed_over}
+use Rattle.trace.specs.Answers.{listed_answer, listed_over}
 
-header-some : 1 ≤ length header
-unfolding header line_of spaced
-header-some = omega arith
+-- whether it stopped for want of room
+abbrev pub no_room : Why → Bool
+no_room lacks_record = false
+no_room lacks_room = true
+no_room (refused_under number) = false
+no_room state_refused = false
 
 pub ahead-beginning : (s : List ℕ) → items_ahead beginning s ≡ items_in s
 unfolding beginning
@@ -35,14 +36,14 @@ ahead-beginning s = rw (due-none beginning refl)
 module _ (s d : List ℕ) where
   -- no room for the header
   pub listed-none :
-      after d 0 header ≡ 0 → (◌≡◌ {A = Listed} (record { written = 0; fits = false }) (listed_answer s d)) × (written d 0 header ≡ listed_over s d)
+      None ≡ place_behind d 0 header → (◌≡◌ {A = Listed} (record { written = 0; fits = false }) (listed_answer s d)) × (written d 0 header ≡ listed_over s d)
   unfolding listed_answer listed_over fitting_listing fitting listing written
   listed-none none =
-      let full = room-none d 0 header header-some none in
-      let short : length d < length header = omega (arith, leb-false (0 + length header) (length d) full) in
+      let no-room = full d 0 header none in
+      let short : length d < length header = omega (arith, leb-false (0 + length header) (length d) no-room) in
       let no_line = lt-leb (length header) (length d) short in
       let no-listing = lt-leb (length (header ++ lines (items_in s))) (length d) (omega (arith, length-append header (lines (items_in s)))) in
-      (sym (rw (no_line, no-listing)), rw (full, no_line) (wrote_none d 0 (omega arith)).text)
+      (sym (rw (no_line, no-listing)), rw (no-room, no_line) (wrote_none d 0 (omega arith)).text)
 
   module _ {e : List ℕ} {next : ℕ} (begun : Wrote d 0 header e next) where
     in-room : next ≤ length e
@@ -83,17 +84,17 @@ module _ (s d : List ℕ) where
         ahead : items_in s ≡ lists.items ++ items_left x.stop x.walk.state (drop x.walk.used s)
         ahead = sym (ahead-beginning s) ∙ rw (append-nil s, append-nil (drop x.walk.used s)) at (lists.rest [] (λ end. refl))
 
-        whole : (x.stop ≡ NoRoom → ⊥) → items_in s ≡ lists.items
+        whole : (x.stop ≡ lacks_room → ⊥) → items_in s ≡ lists.items
         whole other = ahead ∙ rw (lists.all refl other, append-nil lists.items)
 
-        all : (x.stop ≡ NoRoom → ⊥) → (◌≡◌ {A = Listed} (record { written = x.walk.at; fits = true }) (listed_answer s d)) × (x.walk.out ≡ listed_over s d)
+        all : (x.stop ≡ lacks_room → ⊥) → (◌≡◌ {A = Listed} (record { written = x.walk.at; fits = true }) (listed_answer s d)) × (x.walk.out ≡ listed_over s d)
         all other =
             let these = whole other in
             let size : length (lines (items_in s)) ≤ length d - length header = omega (arith, ap (λ (l : List Item). length (lines l)) these, text.room, begun.place, long) in
             listed-items x lists.items true text (fitting-all (length d - length header) (items_in s) size ∙ ap lines these)
             (le-leb (length (header ++ lines (items_in s))) (length d) (omega (arith, length-append header (lines (items_in s)), begun.room)))
 
-        cut : x.stop ≡ NoRoom → (◌≡◌ {A = Listed} (record { written = x.walk.at; fits = false }) (listed_answer s d)) × (x.walk.out ≡ listed_over s d)
+        cut : x.stop ≡ lacks_room → (◌≡◌ {A = Listed} (record { written = x.walk.at; fits = false }) (listed_answer s d)) × (x.walk.out ≡ listed_over s d)
         cut full =
             let next-line : TooLong x.walk (items_ahead x.walk.state (drop x.walk.used s)) = rw (append-nil (drop x.walk.used s)) at (lists.full full [] (λ end. refl)) in
             let these : items_in s ≡ lists.items ++ (next-line.first ∷ next-line.others) = rw (full, next-line.are) at ahead in
@@ -109,9 +110,9 @@ module _ (s d : List ℕ) where
             (omega (arith, length-append header (lines (items_in s)), behind, length-append (line next-line.first) (lines next-line.others), too_long, begun.room)))
 
         go :
-            (stop : Stop) → x.stop ≡ stop
+            (stop : Why) → x.stop ≡ stop
             → (◌≡◌ {A = Listed} (record { written = x.walk.at; fits = not (no_room stop) }) (listed_answer s d)) × (x.walk.out ≡ listed_over s d)
-        go NoRecord at-end = all (λ full. absurd (false≢true (ap no_room (sym at-end ∙ full))))
-        go NoRoom full = cut full
-        go (Refused number) at-end = all (λ full. absurd (false≢true (ap no_room (sym at-end ∙ full))))
-        go BadState at-end = all (λ full. absurd (false≢true (ap no_room (sym at-end ∙ full))))
+        go lacks_record at-end = all (λ full. absurd (false≢true (ap no_room (sym at-end ∙ full))))
+        go lacks_room full = cut full
+        go (refused_under number) at-end = all (λ full. absurd (false≢true (ap no_room (sym at-end ∙ full))))
+        go state_refused at-end = all (λ full. absurd (false≢true (ap no_room (sym at-end ∙ full))))

@@ -3,6 +3,7 @@ ghost use Rattle.std.specs.Prelude.{◌≡◌, ◌≢◌, ◌≤◌, length, IfS
 ghost use Rattle.std.specs.Io.KnownBytes.{Appends};
 ghost use Rattle.streaming.specs.declared.failure.Failure.TheVariants.{NoRoom, Read as Failure·Read};
 ghost use Rattle.streaming.specs.Feeding.{most_held, Begun};
+ghost use Rattle.trace_state.specs.Feed.{why};
 ghost use Rattle.trace_state.specs.Listing.{listing};
 ghost use Rattle.trace_state.proofs.Staying.{Stays};
 ghost use Rattle.trace.specs.Answers.{wanted};
@@ -14,7 +15,7 @@ use streaming::{Failure, Fed, Stop, Transducer, run};
 use trace_state::{Trace, beginning};
 use trace_text::put_header;
 
-// The state of a trace, and whether the header is still to be written.
+// The state of a trace, and whether the header is still to be written: a trace that has just begun may have its header behind it, so this is told apart.
 #[derive(Clone, Copy, Debug)]
 pub struct Lister {
     pub trace: Trace,
@@ -23,7 +24,7 @@ pub struct Lister {
 
 // What feeding wants next. No From: both types are other crates'.
 fn wanted_next(stop: trace_state::Stop) -> Stop
-    ensures { result ≡ wanted stop }
+    ensures { result ≡ wanted (why stop) }
 {
     match stop {
         trace_state::Stop::NoRecord => Stop::WantsBytes,
@@ -51,14 +52,14 @@ impl Transducer for Lister {
     fn feed(&mut self, input: &[u8], ended: bool, out: &mut [u8], at: usize) -> Fed {
         let mut begin = at;
         if self.header_due {
-            begin = put_header(out, at);
-            if begin == at {
+            let Some(behind) = put_header(out, at) else {
                 return Fed {
                     used: 0,
                     at,
                     stop: Stop::WantsRoom,
                 };
-            }
+            };
+            begin = behind;
             self.header_due = false;
         }
         let fed = feed(self.trace, input, ended, out, begin);

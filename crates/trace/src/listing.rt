@@ -1,6 +1,6 @@
 // The listing of a whole trace.
 ghost use Rattle.std.specs.Prelude.{◌≡◌};
-ghost use Rattle.trace.specs.Answers.{no_room, listed_answer, listed_over};
+ghost use Rattle.trace.specs.Answers.{listed_answer, listed_over};
 
 use crate::feeding::feed;
 use trace_state::{Stop, beginning};
@@ -13,28 +13,20 @@ pub struct Listed {
     pub fits: bool,
 }
 
-// Whether feeding stopped for want of room.
-fn lacks_room(stop: Stop) -> bool
-    ensures { result ≡ no_room stop }
-{
-    matches!(stop, Stop::NoRoom)
-}
-
 // The listing of a trace, and the rest of the slice as it was. Where there is no room for all, as many of its lines are written as find room.
 pub fn list_trace(input: &[u8], out: &mut [u8]) -> Listed
     ensures value { result ≡ listed_answer input.now out.old }
     ensures out_after { out.new ≡ listed_over input.now out.old }
 {
-    let at = put_header(out, 0);
-    if at == 0 {
+    let Some(at) = put_header(out, 0) else {
         return Listed {
             written: 0,
             fits: false,
         };
-    }
+    };
     let fed = feed(beginning(), input, true, out, at);
     Listed {
         written: fed.at,
-        fits: !lacks_room(fed.stop),
+        fits: fed.stop != Stop::NoRoom,
     }
 }

@@ -4,35 +4,33 @@ use mathlib.Core.List.{List}
 use Prim.Native.Nat.{ℕ, ◌+◌, ◌-◌, ◌≤◌, ◌<◌}
 use native.Mathlib.Omega.{arith}
 use borrow.Author.Tests.{ne_eqb}
-use lib.Ieee.{Float}
 use lib.ListN.{length, take, drop}
-use Rattle.std.specs.Prelude.{Option, Some, None}
+use mathlib.Core.Bool.{true, false}
 use Rattle.aec3_common.specs.declared.settings.ErleSettings.{ErleSettings}
 use Rattle.aec3_common.specs.Refusal.{accepted}
 use Rattle.erle_estimator.specs.declared.ErleEstimator.{ErleEstimator}
-use Rattle.trace_records.specs.Frames.{length_in, record_in}
-use Rattle.trace_records.specs.Judge.{block_length}
+use Rattle.trace_records.specs.Frames.{record_in}
+use Rattle.trace_records.specs.declared.judge.Standing.{Standing}
 use Rattle.trace_records.proofs.Judged.{BlockOk}
 use Rattle.trace_state.specs.Apply.{channels_of, standing_of, row_at}
 use Rattle.trace_state.specs.Feed.{Walk}
-use Rattle.trace_blocks.specs.Steps.{RowsLeft, rows_written, block_frame_length, Ran, AfterBlock, Taken}
+use Rattle.trace_blocks.specs.Steps.{RowsLeft, rows_written, is_block_frame, Ran, AfterBlock, Taken}
 use Rattle.trace_blocks.proofs.Due.{walk_with}
-use Rattle.trace_blocks.proofs.Frames.{BlockFrame, some-frame, frame-ends, record-ahead, lent-ahead}
+use Rattle.trace_blocks.proofs.Frames.{BlockFrame, frame-of, record-size, frame-ends, lent-ahead}
 use Rattle.trace_blocks.proofs.Going.{Going, going-rows, rows_end, not-in-form, values-not-refused, block-form}
 
--- What the loop knows at a block that the bytes ahead begin with, whose L is l. The count of channels was read before the loop.
-pub record AtBlock (s : List ℕ) (from now : Walk) (values : List Float) (l : ℕ) : Type 0 where
-  pub going : Going s from now values
-  pub as_many : channels_of from.state.estimator ≡ channels_of now.state.estimator
+-- What the loop knows at a block that the bytes ahead begin with. The count of channels was read before the loop.
+pub record AtBlock (s : List ℕ) (from now : Walk) (bytes : List ℕ) (channels : ℕ) : Type 0 where
+  pub going : Going s from now
+  pub as_many : channels ≡ channels_of now.state.estimator
   pub none : now.state.rows_due ≡ 0
   pub frame : BlockFrame (standing_of now.state) (drop now.used s)
-  pub long : l ≡ length_in (drop now.used s)
   pub form : BlockOk (standing_of now.state) (length (record_in (drop now.used s)))
-  pub ends : now.used + 4 + l ≤ length s
-  pub lent : take (now.used + 4 + l - (now.used + 4)) (drop (now.used + 4) s) ≡ record_in (drop now.used s)
+  pub ends : now.used + (4 + length bytes) ≤ length s
+  pub lent : bytes ≡ record_in (drop now.used s)
 
 module _
-    {s : List ℕ} {from before : Walk} {values : List Float} (g : Going s from before values) {r : RowsLeft}
+    {s : List ℕ} {from before : Walk} (g : Going s from before) {r : RowsLeft}
     (given : rows_written (row_at before.state.estimator before.state.band before.state.blocks) (channels_of before.state.estimator) before.state.rows_due before.out before.at ≡ r)
     (fewer : r.due ≤ before.state.rows_due) (same-long : length r.out ≡ length before.out)
   where
@@ -42,7 +40,7 @@ module _
     abbrev now : Walk
     now = walk_with before.state before.used r
 
-    pub behind-rows : Going s from now values
+    pub behind-rows : Going s from now
     behind-rows = going-rows g given fewer same-long
 
     -- a row that is still due found no room
@@ -60,58 +58,54 @@ module _
         }
 
     module _ (none : r.due ≤ 0) where
-      abbrev told : Option ℕ
-      told = block_frame_length (record { num_capture_channels = channels_of from.state.estimator }) (take (length s - before.used) (drop before.used s))
+      module _ {st : Standing} (stands : st ≡ record { num_capture_channels = channels_of from.state.estimator }) where
+        abbrev lent : List ℕ
+        lent = take (length s - before.used) (drop before.used s)
 
-      told-is : told ≡ block_frame_length (standing_of now.state) (drop before.used s)
-      told-is i = block_frame_length (record { num_capture_channels = as-before i }) (lent-ahead s before.used i)
+        st-is : st ≡ standing_of now.state
+        st-is = stands ∙ (λ i. record { num_capture_channels = as-before i })
 
-      -- the bytes ahead begin with no block in form
-      pub ends-no-frame : None ≡ told → Ran s from now
-      ends-no-frame is =
-          let b = behind-rows in
-          record {
-            same = b.same;
-            ready = b.ready;
-            due = b.due;
-            onward = b.onward;
-            within = b.within;
-            full = λ some. absurd (omega arith);
-            no_block = λ no whole kind ok. not-in-form _ _ whole kind ok (is ∙ told-is);
-          }
+        told-is : is_block_frame st lent ≡ is_block_frame (standing_of now.state) (drop before.used s)
+        told-is i = is_block_frame (st-is i) (lent-ahead s before.used i)
 
-      pub at-block : {l : ℕ} → Some l ≡ told → AtBlock s from now values l
-      at-block is =
-          let b = behind-rows in
-          let no : r.due ≡ 0 = omega arith in
-          let (frame, long) = some-frame (standing_of now.state) (drop before.used s) (is ∙ told-is) in
-          record {
-            going = b;
-            as_many = as-before;
-            none = no;
-            frame = frame;
-            long = long;
-            form = block-form b no frame;
-            ends = omega (arith, long, frame-ends s before.used b.within frame);
-            lent = record-ahead s before.used long;
-          }
+        -- the bytes ahead begin with no block in form
+        pub ends-no-frame : is_block_frame st lent ≡ false → Ran s from now
+        ends-no-frame is =
+            let b = behind-rows in
+            record {
+              same = b.same;
+              ready = b.ready;
+              due = b.due;
+              onward = b.onward;
+              within = b.within;
+              full = λ some. absurd (omega arith);
+              no_block = λ no whole kind ok. not-in-form _ _ whole kind ok (sym told-is ∙ is);
+            }
 
-module _ {s : List ℕ} {from now : Walk} {values : List Float} {l : ℕ} (b : AtBlock s from now values l) where
+        pub at-block :
+            {bytes : List ℕ} {channels : ℕ} → (is_block_frame st lent ≡ true) × (bytes ≡ record_in lent) → channels ≡ st.num_capture_channels
+            → AtBlock s from now bytes channels
+        at-block {bytes} is count =
+            let b = behind-rows in
+            let no : r.due ≡ 0 = omega arith in
+            let frame = frame-of (standing_of now.state) (drop before.used s) (sym told-is ∙ is.0) in
+            let own : bytes ≡ record_in (drop before.used s) = is.1 ∙ ap record_in (lent-ahead s before.used) in
+            record {
+              going = b;
+              as_many = count ∙ ap (λ (x : Standing). x.num_capture_channels) st-is;
+              none = no;
+              frame = frame;
+              form = block-form b no frame;
+              ends = omega (arith, ap length own, record-size _ frame.whole, frame-ends s before.used b.within frame);
+              lent = own;
+            }
+
+module _ {s : List ℕ} {from now : Walk} {bytes : List ℕ} {channels : ℕ} (b : AtBlock s from now bytes channels) where
   abbrev e : ErleEstimator
   e = now.state.estimator
 
-  abbrev bytes : List ℕ
-  bytes = record_in (drop now.used s)
-
-  -- the record as it is lent
-  abbrev lent : List ℕ
-  lent = take (now.used + 4 + l - (now.used + 4)) (drop (now.used + 4) s)
-
-  pub in-form : (1 ≤ channels_of e) × (length lent ≡ block_length (channels_of e))
-  in-form = (b.form.some, ap length b.lent ∙ b.form.long)
-
-  module _ {after : AfterBlock} (taken : Taken e lent after) where
-    pub taken-there : Taken e bytes after
+  module _ {after : AfterBlock} (taken : Taken e bytes after) where
+    pub taken-there : Taken e (record_in (drop now.used s)) after
     taken-there = rw b.lent at taken
 
     -- where feeding stands with the estimator that is left

@@ -2,47 +2,36 @@
 use mathlib.Core.Path.{◌≡◌, refl, sym, ap, ◌∙◌}
 use mathlib.Core.Bool.{Bool, true, false, cond, false≢true}
 use mathlib.Core.List.{List}
-use mathlib.Core.Logic.{◌⊎◌, inl, inr}
 use Prim.Native.Nat.{ℕ, ◌+◌, ◌-◌, ◌≤◌}
 use native.Mathlib.Omega.{arith}
-use borrow.Author.Tests.{eq-eqb, eqb-true}
+use borrow.Author.Tests.{eq-eqb, ne_eqb, eqb-true}
+use mathlib.Core.Logic.{◌⊎◌, inl, inr}
 use lib.Dec.{eqb}
 use lib.ListN.{length, take, drop, length-drop}
-use Rattle.std.specs.Prelude.{Some, None}
-use lib.Seq.{take_all, drop-drop}
+use Rattle.std.specs.Prelude.{Result, Ok, Err, IfOk, MatchOption}
+use Rattle.std.specs.Result.{result_ok}
+use lib.Seq.{take_all, length-take-le}
+use Rattle.aec3_common.specs.declared.refusal.Refusal.{Refusal}
+use Rattle.aec3_common.specs.Answers.{number_of}
 use Rattle.aec3_common.specs.Refusal.{accepted}
 use Rattle.aec3_common.proofs.Choices.{each-of-three}
 use Rattle.trace_records.specs.declared.judge.Standing.{Standing}
 use Rattle.trace_records.specs.declared.records.Decoded.{Decoded}
-use Rattle.trace_records.specs.declared.records.Decoded.TheVariants.{Settings, Block, Reset, Unknown}
 use Rattle.trace_records.specs.declared.records.SettingsRecord.{SettingsRecord}
-use Rattle.trace_records.specs.Frames.{length_in, framed, record_in, frame_length}
+use Rattle.trace_records.specs.declared.records.Decoded.TheVariants.{Settings, Block, Reset}
+use Rattle.trace_records.specs.declared.records.BlockBytes.{BlockBytes}
+use Rattle.trace_records.specs.Frames.{length_in, framed, record_in}
 use Rattle.trace_records.specs.Records.{Record, settings, block, reset, unknown, settings_in, block_in, delay_flag_in, kind_of, settings_kind, block_kind, reset_kind, decoded}
 use Rattle.trace_records.specs.Judge.{form_refusal}
 use Rattle.trace_records.specs.Steps.{record_from}
-use Rattle.trace_records.proofs.Framing.{framed-least, framed-most, framed-room, length-framed, no-length-framed}
-use Rattle.trace_blocks.specs.Steps.{is_block_frame, block_frame_length}
+use Rattle.trace_records.proofs.Framing.{framed-room}
+use Rattle.trace_records.proofs.Judged.{refused-some}
+use Rattle.trace_blocks.specs.Steps.{is_block_frame}
 use Rattle.trace_state.specs.Apply.{is_block}
 
--- ---- a whole record
-
-pub record Whole (s : List ℕ) (n : ℕ) : Type 0 where
-  pub whole : framed s ≡ true
-  pub long : n ≡ length_in s
-  pub some : 2 ≤ n
-  pub few : n ≤ 65532
-  pub room : 4 + n ≤ length s
-
-pub whole_is : (s : List ℕ) {n : ℕ} → Some n ≡ frame_length s → Whole s n
-whole_is s is =
-    let (ok, long) = length-framed s _ is in
-    record {
-      whole = ok;
-      long = long;
-      some = omega (arith, long, framed-least s ok);
-      few = omega (arith, long, framed-most s ok);
-      room = omega (arith, long, framed-room s ok);
-    }
+-- how long a whole record is
+pub record-size : (s : List ℕ) → framed s ≡ true → length (record_in s) ≡ length_in s
+record-size s whole = length-take-le (length_in s) (drop 4 s) (omega (arith, framed-room s whole, length-drop 4 s))
 
 -- ---- a block frame
 
@@ -84,61 +73,49 @@ module _ (st : Standing) (s : List ℕ) where
   unfolding is_block_frame is_block
   is-frame p = rw p.kind (simp (p.whole, eq-eqb _ _ p.form))
 
-  -- a length is given for a block frame, its L
-  pub some-frame : {l : ℕ} → Some l ≡ block_frame_length st s → BlockFrame st s × (l ≡ length_in s)
-  unfolding block_frame_length
-  some-frame {l} some = go (is_block_frame st s) refl some
-    where
-      go : (t : Bool) → is_block_frame st s ≡ t → Some l ≡ cond t (Some (length_in s)) None → BlockFrame st s × (l ≡ length_in s)
-      go true e is = (frame-of e, cc)
-      go false e is = absurd (cc)
-
-  pub frame-long : BlockFrame st s → block_frame_length st s ≡ Some (length_in s)
-  unfolding block_frame_length
-  frame-long p = rw (is-frame p)
-
   -- bytes that begin with no whole record
-  pub frame-none : None ≡ frame_length s → None ≡ block_frame_length st s
-  unfolding block_frame_length is_block_frame
-  frame-none none = sym (rw (no-length-framed s none))
+  pub frame-none : framed s ≡ false → is_block_frame st s ≡ false
+  unfolding is_block_frame
+  frame-none none = rw none
 
-  module _ {n : ℕ} (w : Whole s n) where
-    abbrev lent : List ℕ
-    lent = take (4 + n - 4) (drop 4 s)
-
-    lent_is : lent ≡ record_in s
-    lent_is = let size : 4 + n - 4 ≡ length_in s = omega (arith, w.long) in rw size
-
+  module _ {r : List ℕ} (whole : framed s ≡ true) (is : r ≡ record_in s) where
     -- a block, by its form
     pub frame-by :
-        {form : ℕ} → record_from st lent Block ≡ decoded st lent → form ≡ form_refusal st (length lent) (block_of st lent)
-        → (t : Bool) → eqb form accepted ≡ t → cond t (Some n) None ≡ block_frame_length st s
-    unfolding block_frame_length is_block_frame is_block record_from
+        {form : ℕ} → record_from st r (Ok Block) ≡ decoded st r → form ≡ form_refusal st (length r) (block_of st r)
+        → (t : Bool) → eqb form accepted ≡ t → is_block_frame st s ≡ t
+    unfolding is_block_frame is_block record_from
     frame-by kind form t e =
-        let is = rw lent_is at kind in
-        let same = rw lent_is at form in
-        sym (rw (w.whole, ← is, ← same, e, w.long))
+        let kind-is = rw is at kind in
+        let same = rw is at form in
+        rw (whole, ← kind-is, ← same, e)
 
-    -- another kind
+    -- as its form is judged
+    pub frame-told :
+        record_from st r (Ok Block) ≡ decoded st r → (judged : Result BlockBytes Refusal) → number_of judged ≡ form_refusal st (length r) (block_of st r)
+        → IfOk judged (λ b. b.bytes.now ≡ r)
+        → MatchOption (result_ok judged) (is_block_frame st s ≡ false) (λ b. (is_block_frame st s ≡ true) × (b.bytes.now ≡ record_in s))
+    frame-told kind (Ok b) form own = (frame-by kind form true refl, own ∙ is)
+    frame-told kind (Err refusal) form own = frame-by kind form false (ne_eqb _ _ (refused-some refusal))
+
+    -- of no kind that is known
+    pub frame-unknown : unknown ≡ decoded st r → is_block_frame st s ≡ false
+    unfolding is_block_frame is_block
+    frame-unknown kind =
+        let kind-is = rw is at kind in
+        rw (whole, ← kind-is) refl
+
+    -- of another kind
     pub frame-other :
-        (d : Decoded) → record_from st lent d ≡ decoded st lent
-        → ((x : SettingsRecord) × (d ≡ Settings x)) ⊎ (((flag : ℕ) × (d ≡ Reset flag)) ⊎ (d ≡ Unknown)) → None ≡ block_frame_length st s
-    unfolding block_frame_length is_block_frame is_block record_from
+        (d : Decoded) → record_from st r (Ok d) ≡ decoded st r → ((x : SettingsRecord) × (d ≡ Settings x)) ⊎ ((flag : ℕ) × (d ≡ Reset flag))
+        → is_block_frame st s ≡ false
+    unfolding is_block_frame is_block record_from
     frame-other d kind other =
-        let is : is_block (decoded st (record_in s)) ≡ false = rw lent_is at (sym (ap is_block kind) ∙ none-of other) in
-        sym (rw (w.whole, is))
+        let none : is_block (decoded st (record_in s)) ≡ false = rw is at (sym (ap is_block kind) ∙ none-of other) in
+        rw (whole, none)
       where
-        none-of : ((x : SettingsRecord) × (d ≡ Settings x)) ⊎ (((flag : ℕ) × (d ≡ Reset flag)) ⊎ (d ≡ Unknown)) → is_block (record_from st lent d) ≡ false
-        none-of (inl e) = ap (λ (k : Decoded). is_block (record_from st lent k)) e.1
-        none-of (inr (inl e)) = ap (λ (k : Decoded). is_block (record_from st lent k)) e.1
-        none-of (inr (inr e)) = ap (λ (k : Decoded). is_block (record_from st lent k)) e
-
--- the record, as the part of the input that is lent
-pub record-ahead :
-    (s : List ℕ) (used : ℕ) {n : ℕ} → n ≡ length_in (drop used s) → take (used + 4 + n - (used + 4)) (drop (used + 4) s) ≡ record_in (drop used s)
-record-ahead s used {n} long =
-    let size : used + 4 + n - (used + 4) ≡ length_in (drop used s) = omega (arith, long) in
-    rw (size, ← drop-drop 4 used s)
+        none-of : ((x : SettingsRecord) × (d ≡ Settings x)) ⊎ ((flag : ℕ) × (d ≡ Reset flag)) → is_block (record_from st r (Ok d)) ≡ false
+        none-of (inl e) = ap (λ (k : Decoded). is_block (record_from st r (Ok k))) e.1
+        none-of (inr e) = ap (λ (k : Decoded). is_block (record_from st r (Ok k))) e.1
 
 -- bytes that are lent to the end
 pub lent-ahead : (s : List ℕ) (used : ℕ) → take (length s - used) (drop used s) ≡ drop used s

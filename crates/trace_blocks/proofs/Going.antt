@@ -1,13 +1,11 @@
 -- What the loop over rows and blocks keeps.
 use mathlib.Core.Path.{◌≡◌, refl, sym, ap, ◌∙◌}
-use mathlib.Core.Bool.{Bool, true, false}
+use mathlib.Core.Bool.{Bool, true, false, true≢false}
 use mathlib.Core.List.{List}
 use Prim.Native.Nat.{ℕ, ◌+◌, ◌≤◌, ◌<◌}
 use native.Mathlib.Omega.{arith}
 use borrow.Author.Tests.{eq-eqb}
-use lib.Ieee.{Float}
 use lib.ListN.{length, drop}
-use Rattle.std.specs.Prelude.{Some, None}
 use Rattle.aec3_common.specs.declared.settings.ErleSettings.{ErleSettings}
 use Rattle.aec3_common.specs.Counts.{one_more}
 use Rattle.aec3_common.specs.Refusal.{accepted}
@@ -23,17 +21,16 @@ use Rattle.trace_state.specs.declared.Trace.{Trace}
 use Rattle.trace_state.specs.Apply.{channels_of, standing_of, update_in, next_of, row_at}
 use Rattle.trace_state.specs.Listing.{record_at, refusal_at}
 use Rattle.trace_state.specs.Feed.{with_rows_due, first_due, Walk, finds_room, feed_from}
-use Rattle.trace_blocks.specs.Steps.{RowsLeft, rows_written, block_frame_length, Ready, AfterBlock, Taken}
+use Rattle.trace_blocks.specs.Steps.{RowsLeft, rows_written, is_block_frame, Ready, AfterBlock, Taken}
 use Rattle.trace_state.specs.Apply.{is_block}
 use Rattle.erle_estimator.proofs.Runs.{update-settings}
 use Rattle.trace_state.proofs.Turning.{fed-taken}
 use Rattle.trace_blocks.proofs.Due.{walk_with, fed-rows, rows-full}
-use Rattle.trace_blocks.proofs.Frames.{BlockFrame, block_of, block-is, frame-long, frame-ends}
+use Rattle.trace_blocks.proofs.Frames.{BlockFrame, block_of, block-is, is-frame, record-size, frame-ends}
 use Rattle.trace_blocks.proofs.Ready.{ready-after}
 
--- Feeding from the one walk and from the other ends alike, and the later state is ready for rows and blocks, with the settings of the earlier one. A
--- table has room for the numbers of a block.
-pub record Going (s : List ℕ) (from now : Walk) (values : List Float) : Type 0 where
+-- Feeding from the one walk and from the other ends alike, and the later state is ready for rows and blocks, with the settings of the earlier one.
+pub record Going (s : List ℕ) (from now : Walk) : Type 0 where
   pub same : (ended : Bool) → feed_from s ended from ≡ feed_from s ended now
   pub ready : Ready now.state.estimator
   pub due : now.state.rows_due ≤ channels_of now.state.estimator
@@ -41,17 +38,10 @@ pub record Going (s : List ℕ) (from now : Walk) (values : List Float) : Type 0
   pub within : now.used ≤ length s
   pub long : length now.out ≡ length from.out
   pub settings : now.state.estimator.settings ≡ from.state.estimator.settings
-  pub numbers : length values ≡ 585
-
-pub going-begun :
-    {s : List ℕ} (w : Walk) {values : List Float} → Ready w.state.estimator → w.state.rows_due ≤ channels_of w.state.estimator → w.used ≤ length s
-    → length values ≡ 585 → Going s w w values
-going-begun w ready due within numbers =
-    record { same = λ ended. refl; ready = ready; due = due; onward = omega arith; within = within; long = refl; settings = refl; numbers = numbers }
 
 -- ---- rows
 
-module _ {s : List ℕ} {from now : Walk} {values : List Float} (g : Going s from now values) where
+module _ {s : List ℕ} {from now : Walk} (g : Going s from now) where
   abbrev n : ℕ
   n = channels_of now.state.estimator
 
@@ -61,7 +51,7 @@ module _ {s : List ℕ} {from now : Walk} {values : List Float} (g : Going s fro
   module _ {r : RowsLeft} (given : rows_written shows n now.state.rows_due now.out now.at ≡ r) where
     pub going-rows :
         r.due ≤ now.state.rows_due → length r.out ≡ length now.out
-        → Going s from (walk_with now.state now.used r) values
+        → Going s from (walk_with now.state now.used r)
     going-rows fewer long =
         record {
           same = λ ended.
@@ -74,7 +64,6 @@ module _ {s : List ℕ} {from now : Walk} {values : List Float} (g : Going s fro
           within = g.within;
           long = long ∙ g.long;
           settings = g.settings;
-          numbers = g.numbers;
         }
 
     -- a row that is still due finds no room
@@ -91,17 +80,16 @@ module _ (st : Standing) (s : List ℕ) (whole : framed s ≡ true) (kind : is_b
   judged : record_refusal st (length (record_in s)) (block b) ≡ accepted
   judged = rw (block-is st (record_in s) kind) at ok
 
-  pub not-in-form : None ≡ block_frame_length st s → ⊥
+  pub not-in-form : is_block_frame st s ≡ false → ⊥
   not-in-form none =
       let frame : BlockFrame st s = record { whole = whole; kind = block-is st (record_in s) kind; form = (both-passed st (length (record_in s)) (block b) judged).0 } in
-      let both-ways : None ≡ Some (length_in s) = none ∙ frame-long st s frame in
-      cc
+      true≢false (sym (is-frame st s frame) ∙ none)
 
   pub values-not-refused : (content_refusal (block b) ≡ accepted → ⊥) → ⊥
   values-not-refused some = some (both-passed st (length (record_in s)) (block b) judged).1
 
 module _
-    {s : List ℕ} {from now : Walk} {values : List Float} (g : Going s from now values)
+    {s : List ℕ} {from now : Walk} (g : Going s from now)
     (none : now.state.rows_due ≡ 0) (frame : BlockFrame (standing_of now.state) (drop now.used s))
   where
     abbrev t : Trace
@@ -125,15 +113,14 @@ module _
 
     pub going-block :
         {k l blocks records : ℕ} {after : AfterBlock}
-        → k ≡ channels_of e → Taken e bytes after → after.refused ≡ accepted → l ≡ length_in rest → blocks ≡ one_more t.blocks → records ≡ one_more t.records
+        → k ≡ channels_of e → Taken e bytes after → after.refused ≡ accepted → l ≡ length bytes → blocks ≡ one_more t.blocks → records ≡ one_more t.records
         → Going s from
         (record {
           state = record { estimator = after.estimator; band = t.band; blocks = blocks; records = records; rows_due = k };
-          used = now.used + 4 + l;
+          used = now.used + (4 + l);
           out = now.out;
           at = now.at;
         })
-        after.values
     unfolding next_of
     going-block {k} {l} {blocks} {records} {after} own-count taken fine long more-blocks more-records =
         let moved : after.estimator ≡ after_accepted e block_update = taken.state ∙ rw (eq-eqb _ _ fine) refl in
@@ -142,7 +129,7 @@ module _
         let passes : refusal_at t bytes ≡ accepted = rw frame.kind in-range in
         let next : next_of t (record_at t bytes) ≡ record { estimator = after.estimator; band = t.band; blocks = blocks; records = records; rows_due = k } =
         ap (next_of t) frame.kind ∙ (λ i. record { estimator = sym moved i; band = t.band; blocks = sym more-blocks i; records = sym more-records i; rows_due = sym own-count i }) in
-        let place : now.used + (4 + length_in rest) ≡ now.used + 4 + l = omega (arith, long) in
+        let place : now.used + (4 + length_in rest) ≡ now.used + (4 + l) = omega (arith, long, record-size _ frame.whole) in
         let kept = ap (λ (x : ErleEstimator). x.settings) moved ∙ update-settings e block_update in
         let as_many = ap (λ (x : ErleSettings). x.num_capture_channels) kept in
         record {
@@ -152,8 +139,7 @@ module _
           ready = rw moved (ready-after e block_update g.ready);
           due = omega arith;
           onward = omega (arith, g.onward);
-          within = omega (arith, long, frame-ends s now.used g.within frame);
+          within = omega (arith, long, record-size _ frame.whole, frame-ends s now.used g.within frame);
           long = g.long;
           settings = kept ∙ g.settings;
-          numbers = taken.long;
         }

@@ -155,14 +155,14 @@ ready-passing t four four-fullband ok = go (eqb (channels_of t.estimator) 0) ref
 
 -- one that has just begun
 pub ready-started :
-    (startup blocks : ℕ) (g : ErleSettings) → g.num_capture_channels ≤ 4 → (1 ≤ g.num_capture_channels → g.num_sections ≡ 1)
+    (startup blocks : ℕ) (g : ErleSettings) → g.num_capture_channels ≤ 4 → (1 ≤ g.num_capture_channels → g.layout.num_sections ≡ 1)
     → Ready (started_with startup blocks g)
 unfolding started_with Subband·started FullBand·started fresh channel_from fresh_channel Instantaneous·fresh cleared
 ready-started startup blocks g few section =
     record {
       few = few;
       section = section;
-      points = λ ch h. rw (get_or-tab 4 (λ k. fresh g.min) ch Subband·no_channel (omega arith)) (no-points g.min);
+      points = λ ch h. rw (get_or-tab 4 (λ k. fresh g.limits.min) ch Subband·no_channel (omega arith)) (no-points g.limits.min);
       points_fullband = λ ch h. rw (get_or-tab 4 (λ k. fresh_channel (min_log2 (fullband_settings g))) ch FullBand·no_channel (omega arith)) (no-points-fullband (min_log2 (fullband_settings g)));
     }
   where

@@ -1,5 +1,5 @@
 -- What inner functions of the code promise; no part of the definition.
-use Rattle.std.specs.Prelude.{◌≡◌, Bool, true, false, cond, ◌&&◌, List, ℕ, zero, suc, ◌+◌, ◌-◌, ◌≤◌, ◌<◌, eqb, Float, length, drop, get_or, Option, Some, None}
+use Rattle.std.specs.Prelude.{◌≡◌, Bool, true, false, cond, ◌&&◌, List, ℕ, zero, suc, ◌+◌, ◌-◌, ◌≤◌, ◌<◌, eqb, Float, length, drop, get_or}
 use Rattle.std.specs.Float.{nan}
 use Rattle.aec3_common.specs.Refusal.{accepted}
 use Rattle.aec3_common.specs.Streams.{erle_of}
@@ -10,12 +10,12 @@ use Rattle.subband_erle_estimator.specs.Subband.{channel_at as Subband·channel_
 use Rattle.erle_estimator.specs.declared.ErleEstimator.{ErleEstimator}
 use Rattle.erle_estimator.specs.Parts.{subband_part, fullband_part}
 use Rattle.erle_estimator.specs.Erle.{after_accepted}
-use Rattle.trace_records.specs.Frames.{length_in, framed, record_in}
+use Rattle.trace_records.specs.Frames.{framed, record_in}
 use Rattle.trace_records.specs.declared.judge.Standing.{Standing}
 use Rattle.trace_records.specs.Records.{block, block_in, decoded}
 use Rattle.trace_records.specs.Judge.{content_refusal, form_refusal}
 use Rattle.trace_text.specs.Text.{Item, line}
-use Rattle.trace_blocks.specs.declared.rows.ChannelFigures.{ChannelFigures}
+use Rattle.trace_text.specs.declared.ChannelFigures.{ChannelFigures}
 use Rattle.trace_state.specs.Apply.{channels_of, update_in, is_block}
 use Rattle.trace_state.specs.Listing.{record_at, refusal_at}
 use Rattle.trace_state.specs.Feed.{Walk, first_due, finds_room, feed_from}
@@ -26,7 +26,7 @@ use Rattle.trace_state.specs.Feed.{Walk, first_due, finds_room, feed_from}
 unfoldable pub figures_of : Bool → ℕ → SubbandChannel → ChannelFigures
 figures_of onset_detection band c =
     let shown = erle_of c.erle c.erle_onset_compensated true onset_detection in
-    record { plain = get_or c.erle band nan; compensated = get_or shown band nan; unbounded = get_or c.erle_unbounded band nan }
+    record { plain = get_or c.erle band nan; compensated = get_or shown band nan; uncapped = get_or c.erle_unbounded band nan }
 
 -- rows written one behind the other, the last `due` of n, for as long as each finds room
 pub record RowsLeft : Type 0 where
@@ -48,14 +48,10 @@ is_block_frame st s =
     let r = decoded st (record_in s) in
     framed s && is_block r && eqb (form_refusal st (length (record_in s)) r) accepted
 
--- its L then
-unfoldable pub block_frame_length : Standing → List ℕ → Option ℕ
-block_frame_length st s = cond (is_block_frame st s) (Some (length_in s)) None
-
 -- what blocks ask of a state: one section, and no more points than a record can hold
 pub record Ready (e : ErleEstimator) : Type 0 where
   pub few : channels_of e ≤ 4
-  pub section : 1 ≤ channels_of e → e.settings.num_sections ≡ 1
+  pub section : 1 ≤ channels_of e → e.settings.layout.num_sections ≡ 1
   pub points : (ch : ℕ) → ch < channels_of e → (Subband·channel_at (subband_part e) ch).num_points ≤ 6
   pub points_fullband : (ch : ℕ) → ch < channels_of e → (FullBand·channel_at (fullband_part e) ch).instantaneous_erle.num_points ≤ 5
 

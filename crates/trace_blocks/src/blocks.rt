@@ -1,18 +1,17 @@
 // Blocks of a trace in a row.
-ghost use Rattle.std.specs.Prelude.{◌≡◌, ◌≤◌, length};
+ghost use Rattle.std.specs.Prelude.{◌≡◌, ◌≤◌, true, false, length, IfSome, MatchOption};
 ghost use Rattle.aec3_common.specs.Answers.{number_of};
-ghost use Rattle.trace_records.specs.Judge.{block_length};
+ghost use Rattle.trace_records.specs.Frames.{record_in};
 ghost use Rattle.trace_state.specs.Apply.{channels_of};
-ghost use Rattle.trace_blocks.specs.Steps.{block_frame_length, Ready, Taken, Ran};
+ghost use Rattle.trace_blocks.specs.Steps.{is_block_frame, Ready, Taken, Ran};
 
 use crate::rows::put_rows;
 use aec3_common::counts::one_more;
 use aec3_common::{Block, Refusal};
 use erle_estimator::ErleEstimator;
-use trace_records::frames::LENGTH_SIZE;
-use trace_records::judge::judge_block_form;
+use trace_records::frames::{LENGTH_SIZE, frame};
 use trace_records::records::MOST_VALUES;
-use trace_records::{Decoded, Standing, decode, flags_in, frame_length, read_block};
+use trace_records::{BlockBytes, Decoded, Standing, decode, flags_in};
 use trace_state::Trace;
 
 // The state after some rows and blocks, how many bytes are done with, and the place where the next line goes.
@@ -23,20 +22,18 @@ pub struct Run {
     pub at: usize,
 }
 
-// The L of the block that the bytes begin with, where they begin with one that is whole and has its form for so many channels.
-fn block_frame_length(num_capture_channels: usize, s: &[u8]) -> Option<usize>
-    ensures { result ≡ block_frame_length (record { num_capture_channels = num_capture_channels }) s.now }
+// The block that the bytes begin with, where they begin with one that is whole and has its form beside what stands.
+fn block_frame<'a>(standing: Standing, s: &'a [u8]) -> Option<BlockBytes<'a>>
+    ensures block { MatchOption result (is_block_frame standing s.now ≡ false) (λ block. (is_block_frame standing s.now ≡ true) × (block.bytes.now ≡ record_in s.now)) }
+    ensures channels { IfSome result (λ block. block.num_capture_channels ≡ standing.num_capture_channels) }
 {
-    let length = frame_length(s)?;
-    let end = LENGTH_SIZE + length;
-    let record = &s[LENGTH_SIZE..end];
-    let standing = Standing {
-        num_capture_channels,
+    let record = frame(s)?;
+    let Ok(decoded) = decode(record) else {
+        return None;
     };
-    match decode(record) {
-        Decoded::Block if judge_block_form(standing, record).is_ok() => Some(length),
-        Decoded::Block => None,
-        Decoded::Settings(_) | Decoded::Reset(_) | Decoded::Unknown => None,
+    match decoded {
+        Decoded::Block => standing.judge_block_form(record).ok(),
+        Decoded::Settings(_) | Decoded::Reset(_) => None,
     }
 }
 
@@ -45,16 +42,17 @@ fn block_frame_length(num_capture_channels: usize, s: &[u8]) -> Option<usize>
 fn take_block(
     estimator: &mut ErleEstimator,
     active: &[[u32; 65]; 4],
-    bytes: &[u8],
+    block: &BlockBytes,
     values: &mut [f32; MOST_VALUES],
 ) -> Result<(), Refusal>
     requires ready { Ready estimator.old }
-    requires in_form { (1 ≤ channels_of estimator.old) × (length bytes.now ≡ block_length (channels_of estimator.old)) }
-    ensures { Taken estimator.old bytes.now (record { estimator = estimator.new; values = values.new; refused = number_of result }) }
+    requires some { 1 ≤ channels_of estimator.old }
+    requires as_many { block.now.num_capture_channels ≡ channels_of estimator.old }
+    ensures { Taken estimator.old block.now.bytes.now (record { estimator = estimator.new; values = values.new; refused = number_of result }) }
 {
-    let n = estimator.settings.num_capture_channels;
-    read_block(bytes, n, values)?;
-    let flags = flags_in(bytes, n);
+    let n = block.num_capture_channels;
+    block.read(values)?;
+    let flags = flags_in(block.bytes, n);
     // Parts of the table are lent of one slice, since the table itself cannot be lent in two parts at once.
     let all = &values[..MOST_VALUES];
     let mid = 65 + 65 * n;
@@ -73,48 +71,37 @@ fn take_block(
 }
 
 // Writes the rows that are due and takes the blocks that the bytes from a place on begin with, for as long as each is accepted and the rows of
-// the one before find room. The estimator stands in one variable and is changed in place.
+// the one before find room. The state stands in one variable, and its estimator is changed in place.
 pub fn run_blocks(t: Trace, input: &[u8], used: usize, out: &mut [u8], at: usize) -> Run
     requires { Ready t.estimator × (t.rows_due ≤ channels_of t.estimator) × (used ≤ length input.now) }
     ensures { Ran input.now (record { state = t; used = used; out = out.old; at = at }) (record { state = result.state; used = result.used; out = out.new; at = result.at }) }
 {
-    let mut estimator = t.estimator;
-    let n = estimator.settings.num_capture_channels;
+    let mut state = t;
+    let standing = Standing::from(t.estimator.settings);
     // A trace has one section, so that none of these is looked at.
     let active = [[0; 65]; 4];
     let mut values = [0.0f32; MOST_VALUES];
-    let mut blocks = t.blocks;
-    let mut records = t.records;
-    let mut due = t.rows_due;
     let mut used = used;
     let mut at = at;
-    // No `for`: how many blocks the bytes begin with is found by going on.
+    // No `for`: a block is looked at before it is taken, and one that is refused, or has to wait for room, stays in the bytes; an iterator would have
+    // taken it.
     loop {
-        let rows = put_rows(out, at, &estimator, t.band, due, blocks);
+        let rows = put_rows(out, at, &state);
         at = rows.at;
-        due = rows.due;
-        if due > 0 {
+        state.rows_due = rows.due;
+        if rows.due > 0 {
             break;
         }
-        let Some(length) = block_frame_length(n, &input[used..]) else {
+        let Some(block) = block_frame(standing, &input[used..]) else {
             break;
         };
-        let start = used + LENGTH_SIZE;
-        let end = start + length;
-        if take_block(&mut estimator, &active, &input[start..end], &mut values).is_err() {
+        if take_block(&mut state.estimator, &active, &block, &mut values).is_err() {
             break;
         }
-        blocks = one_more(blocks);
-        records = one_more(records);
-        due = n;
-        used = end;
+        state.blocks = one_more(state.blocks);
+        state.records = one_more(state.records);
+        state.rows_due = standing.num_capture_channels;
+        used += LENGTH_SIZE + block.bytes.len();
     }
-    let state = Trace {
-        estimator,
-        band: t.band,
-        blocks,
-        records,
-        rows_due: due,
-    };
     Run { state, used, at }
 }

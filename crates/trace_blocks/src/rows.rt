@@ -4,17 +4,10 @@ ghost use Rattle.std.specs.Float.{nan};
 ghost use Rattle.trace_state.specs.Apply.{channels_of, row_at};
 ghost use Rattle.trace_blocks.specs.Steps.{figures_of, rows_written, Ready};
 
-use erle_estimator::{ErleEstimator, erle};
+use erle_estimator::erle;
 use subband_erle_estimator::SubbandChannel;
-use trace_text::put_row;
-
-// What a row shows of a channel.
-#[derive(Clone, Copy, Debug)]
-struct ChannelFigures {
-    plain: f32,
-    compensated: f32,
-    unbounded: f32,
-}
+use trace_state::Trace;
+use trace_text::{ChannelFigures, put_row};
 
 // The place behind the rows that found room, and how many are still due.
 #[derive(Clone, Copy, Debug)]
@@ -39,42 +32,26 @@ fn figures_at(c: &SubbandChannel, onset_detection: bool, band: usize) -> Channel
     ChannelFigures {
         plain: figure_at(&c.erle, band),
         compensated: figure_at(shown, band),
-        unbounded: figure_at(&c.erle_unbounded, band),
+        uncapped: figure_at(&c.erle_unbounded, band),
     }
 }
 
-// Writes the last `due` rows of a block, one behind the other, for as long as each finds room. With one section a channel's figures are those of its
-// subband record alone, which is lent where it stands. Six parameters: parts of a trace's state, in which the estimator alone is lent.
-pub fn put_rows(
-    out: &mut [u8],
-    at: usize,
-    estimator: &ErleEstimator,
-    band: usize,
-    due: usize,
-    block: u32,
-) -> RowsPut
-    requires due_few { due ≤ channels_of estimator.now }
-    requires ready { Ready estimator.now }
-    ensures at_value { rows_written (row_at estimator.now band block) (channels_of estimator.now) due out.entry.now at ≡ record { out = out.exit.now; at = result.at; due = result.due } }
-    ensures due_le_due { result.due ≤ due }
+// Writes the rows of the latest block that are due, one behind the other, for as long as each finds room. With one section a channel's figures are
+// those of its subband record alone, which is lent where it stands.
+pub fn put_rows(out: &mut [u8], at: usize, t: &Trace) -> RowsPut
+    requires due_few { t.now.rows_due ≤ channels_of t.now.estimator }
+    requires ready { Ready t.now.estimator }
+    ensures at_value { rows_written (row_at t.now.estimator t.now.band t.now.blocks) (channels_of t.now.estimator) t.now.rows_due out.entry.now at ≡ record { out = out.exit.now; at = result.at; due = result.due } }
+    ensures due_le_due { result.due ≤ t.now.rows_due }
 {
-    let n = estimator.settings.num_capture_channels;
-    let on = estimator.settings.onset_detection;
+    let n = t.estimator.settings.num_capture_channels;
+    let on = t.estimator.settings.onset_detection;
     let mut at = at;
-    for ch in n - due..n {
-        let shown = figures_at(&estimator.subband[ch], on, band);
-        let next = put_row(
-            out,
-            at,
-            block,
-            ch as u32,
-            shown.plain,
-            shown.compensated,
-            shown.unbounded,
-        );
-        if next == at {
+    for ch in n - t.rows_due..n {
+        let figures = figures_at(&t.estimator.subband[ch], on, t.band);
+        let Some(next) = put_row(out, at, t.blocks, ch as u32, figures) else {
             return RowsPut { at, due: n - ch };
-        }
+        };
         at = next;
     }
     RowsPut { at, due: 0 }

@@ -18,22 +18,29 @@ fn list_one<W: Write>(writer: &mut W, trace: &[u8], out: &mut [u8]) {
     }
 }
 
-// Nothing says that the input ends, so the loop has a number of turns that no run uses up.
-fn run<R: Read, W: Write>(reader: &mut R, writer: &mut W, buffer: &mut [u8], out: &mut [u8]) {
+// Lists each trace. Nothing says that the input ends, so the loop has a number of turns that no run uses up. No closure for script's replaying:
+// that reads a record's kind and fields, which a trace has not, and collects text on the heap, which no program over the traces uses.
+fn list_all<R: Read, W: Write>(
+    reader: &mut R,
+    writer: &mut W,
+    buffer: &mut [u8],
+    out: &mut [u8],
+) -> Result<(), Malformed> {
     for _ in 0..u64::MAX {
-        match next_record(reader, buffer) {
-            Ok(Some(trace)) => list_one(writer, trace, out),
-            Ok(None) => return,
-            Err(Malformed) => {
-                write_out(writer, b"bad\n");
-                return;
-            }
-        }
+        let Some(trace) = next_record(reader, buffer)? else {
+            break;
+        };
+        list_one(writer, trace, out);
     }
+    Ok(())
 }
 
+// The two tables are arrays, since the library of traces is tried here as it is used: without heap.
 fn main(rt: HostRuntime) {
     let mut buffer = [0; 65536];
     let mut out = [0; 65536];
-    run(&mut rt.stdin(), &mut rt.stdout(), &mut buffer, &mut out);
+    let mut writer = rt.stdout();
+    if list_all(&mut rt.stdin(), &mut writer, &mut buffer, &mut out).is_err() {
+        write_out(&mut writer, b"bad\n");
+    }
 }

@@ -1,22 +1,24 @@
 -- A block in tables: how long its lists are, the loop that reads its numbers, and where each list stands among them.
 use mathlib.Core.Path.{◌≡◌, refl, ap, ◌∙◌}
-use mathlib.Core.Bool.{false}
+use mathlib.Core.Bool.{Bool, true, false}
 use mathlib.Core.List.{List, [], ◌∷◌, ◌++◌, map}
 use Prim.Native.Nat.{ℕ, zero, suc, ◌+◌, ◌-◌, ◌*◌, ◌/◌, ◌%◌, ◌≤◌, ◌<◌}
 use native.Mathlib.Omega.{arith}
-use Rattle.std.proofs.Common.{suc-mul, zero-mul}
+use borrow.Author.Tests.{ltb-true, ltb-false}
+use borrow.Rule.Slice.PartMut.{put_mid}
+use Rattle.std.proofs.Common.{suc-mul, zero-mul, rules, ◌⊎◌, inl, inr}
+use Rattle.std.proofs.lemmas.List.{places}
+use lib.Dec.{ltb}
 use lib.Ieee.{Float, nan}
 use lib.ListN.{length, take, drop, get_or, length-append, length-drop}
 use lib.Seq.{get_or-take, get_or-drop, drop-drop, length-take-le}
 use Rattle.aec3_common.specs.Calls.{value_refusal}
 use Rattle.aec3_common.specs.Lists.{tab}
-use Rattle.aec3_common.specs.Steps.{Changed}
 use Rattle.std.specs.Simd.{first_chunks}
-use Rattle.aec3_common.proofs.Tables.{length-tab, get_or-tab-first, tab-is, tab-same}
+use Rattle.aec3_common.proofs.Tables.{length-tab, get_or-tab, get_or-tab-first, tab-is, tab-same}
 use Rattle.encoding.specs.Bytes.{byte_at, half_at, word_at}
 use Rattle.trace_records.specs.Records.{is_set, value_at, converged_byte, flags_in, spectrum_at, render_place, render_in, spectra_at, capture_place, capture_in, residual_place, residual_in}
-use Rattle.trace_records.specs.Judge.{block_length}
-use Rattle.trace_records.specs.Steps.{flag_table, NumbersRead, numbers_in, BlockRead}
+use Rattle.trace_records.specs.Steps.{flag_table, numbers_in, BlockRead}
 use Rattle.trace_records.proofs.Parts.{two-together, first-of-two, second-of-two}
 
 -- ---- how long the lists are
@@ -96,31 +98,10 @@ get_or-chunks n (suc m) xs (suc k) h =
     let on : k * n + n ≡ suc k * n = rw suc-mul (omega arith) in
     get_or-chunks n m (drop n xs) k (omega arith) ∙ ap (take n) (drop-drop (k * n) n xs ∙ ap (λ (j : ℕ). drop j xs) (omega (arith, on)))
 
--- a number in four bytes of the part that holds them all
-pub value-four :
-    (r : List ℕ) (place k : ℕ)
-    → k < 65 → value_at (get_or (first_chunks 4 65 (take 260 (drop place r))) k []) 0 ≡ value_at r (place + 4 * k)
-value-four r place k h =
-    let part = take 260 (drop place r) in
-    let at : place + (k * 4 + 0) ≡ place + 4 * k = omega arith in
-    ap (λ (four : List ℕ). value_at four 0) (get_or-chunks 4 65 part k h)
-    ∙ value-part part (k * 4) 4 0 (omega arith)
-    ∙ value-part r place 260 (k * 4 + 0) (omega arith)
-    ∙ ap (value_at r) at
-
--- the entries of a table were made so
-pub numbers-read :
-    {made : ℕ → Float → Float → Type 0} {r : List ℕ} {place from : ℕ} {before values : List Float}
-    → Changed made from (from + 65) before values → length values ≡ 585
-    → ((k : ℕ) (old new : Float) → k < 65 → made (from + k) old new → new ≡ value_at r (place + 4 * k))
-    → NumbersRead r place before from 65 values
-numbers-read {from = from} {before = before} {values = values} c long told =
-    record {
-      long = long;
-      own = λ k b. told k (get_or before (from + k) nan) (get_or values (from + k) nan) b (c.within (from + k) nan (omega arith) (omega arith));
-      under = λ k b. c.below k nan b;
-      behind = λ k b. c.above k nan b;
-    }
+-- a number in its four bytes
+pub value-four : (r : List ℕ) (k : ℕ) → k < 65 → value_at (get_or (first_chunks 4 65 r) k []) 0 ≡ value_at r (0 + 4 * k)
+value-four r k h =
+    ap (λ (four : List ℕ). value_at four 0) (get_or-chunks 4 65 r k h) ∙ value-part r (k * 4) 4 0 (omega arith) ∙ ap (value_at r) (omega arith)
 
 -- ---- one spectrum of each channel
 
@@ -128,12 +109,59 @@ numbers-read {from = from} {before = before} {values = values} c long told =
 pub record SpectraRead (r : List ℕ) (i at m : ℕ) (values : List Float) : Type 0 where
   pub each : (k : ℕ) → k < m * 65 → get_or values (at + k) nan ≡ value_at r (i + k / 65 * 520 + 4 * (k % 65))
 
+-- none yet
+pub spectra-none : {r : List ℕ} {i at : ℕ} {values : List Float} → SpectraRead r i at 0 values
+spectra-none = record { each = λ k b. absurd (omega arith) }
+
 spectra-are : {r : List ℕ} {i at m : ℕ} {values : List Float} → SpectraRead r i at m values → at + m * 65 ≤ length values → take (m * 65) (drop at values) ≡ spectra_at m r i
 unfolding spectra_at
 spectra-are {at = at} {m = m} {values = values} s room =
     tab-is (m * 65) nan _ (take (m * 65) (drop at values))
     (length-take-le (m * 65) (drop at values) (omega (arith, length-drop at values)))
     (λ k b. get_or-take (m * 65) (drop at values) k nan b ∙ get_or-drop at values k nan ∙ s.each k b)
+
+-- Where the 65 entries from one on are written over with the numbers of a part of a record, they are the numbers from a place on; the others are as
+-- they were.
+pub record NumbersRead (r : List ℕ) (place : ℕ) (before : List Float) (from : ℕ) (values : List Float) : Type 0 where
+  pub long : length values ≡ length before
+  pub own : (k : ℕ) → k < 65 → get_or values (from + k) nan ≡ value_at r (place + 4 * k)
+  pub under : (k : ℕ) → k < from → get_or values k nan ≡ get_or before k nan
+  pub behind : (k : ℕ) → from + 65 ≤ k → get_or values k nan ≡ get_or before k nan
+
+pub numbers-read :
+    (place end from to : ℕ) {r : List ℕ} {before new : List Float}
+    → new ≡ spectrum_at (take (end - place) (drop place r)) 0 → end ≡ place + 260 → to ≡ from + 65 → from + 65 ≤ length before
+    → NumbersRead r place before from (put_mid from (to - from) before new)
+unfolding spectrum_at
+numbers-read place end from to {r} {before} {new} is bytes count room =
+    let long : length new ≡ 65 = ap length is ∙ length-tab 65 _ in
+    let entry : (k : ℕ) → k < 65 → get_or new k nan ≡ value_at r (place + 4 * k) =
+    λ k b. ap (λ (l : List Float). get_or l k nan) is ∙ get_or-tab 65 _ k nan b ∙ value-part r place (end - place) (0 + 4 * k) (omega arith) ∙ ap (value_at r) (omega arith) in
+    record {
+      long = search (rules, places);
+      own = λ k b. grind (arith, places, entry k b);
+      under = λ k b. grind (arith, places);
+      behind = λ k b. grind (arith, places);
+    }
+
+-- ---- a spectrum more
+
+module _ {r : List ℕ} {i at m place from : ℕ} {before values : List Float} (read : SpectraRead r i at m before) (put : NumbersRead r place before from values) where
+  -- the next channel's
+  pub spectra-more : place ≡ i + 520 * m → from ≡ at + m * 65 → SpectraRead r i at (m + 1) values
+  spectra-more here behind = record { each = λ k b. go k b (ltb k (m * 65)) refl }
+    where
+      go : (k : ℕ) → k < (m + 1) * 65 → (old : Bool) → ltb k (m * 65) ≡ old → get_or values (at + k) nan ≡ value_at r (i + k / 65 * 520 + 4 * (k % 65))
+      go k b true p = put.under (at + k) (omega (arith, ltb-true k (m * 65) p)) ∙ read.each k (ltb-true k (m * 65) p)
+      go k b false p =
+          let j = k - m * 65 in
+          ap (λ (n : ℕ). get_or values n nan) (omega (arith, ltb-false k (m * 65) p)) ∙ put.own j (omega (arith, ltb-false k (m * 65) p))
+          ∙ ap (value_at r) (omega (arith, ltb-false k (m * 65) p))
+
+  -- one that stands elsewhere
+  pub spectra-kept : (at + m * 65 ≤ from) ⊎ (from + 65 ≤ at) → SpectraRead r i at m values
+  spectra-kept (inl before-it) = record { each = λ k b. put.under (at + k) (omega arith) ∙ read.each k b }
+  spectra-kept (inr behind-it) = record { each = λ k b. put.behind (at + k) (omega arith) ∙ read.each k b }
 
 -- render power is as one channel's
 one-channel : (n : ℕ) (r : List ℕ) → spectra_at 1 r (render_place n) ≡ render_in n r
@@ -144,8 +172,6 @@ one-channel n r = tab-same 65 nan _ _ (λ k b. ap (value_at r) (omega arith))
 
 -- Render power has been read, and capture and residual power of the channels before ch.
 pub record Reading (n : ℕ) (r : List ℕ) (values : List Float) (ch : ℕ) : Type 0 where
-  pub few : n ≤ 4
-  pub whole : length r ≡ block_length n
   pub long : length values ≡ 585
   pub render : SpectraRead r (render_place n) 0 1 values
   pub capture : SpectraRead r (capture_place n) 65 ch values
@@ -154,18 +180,18 @@ pub record Reading (n : ℕ) (r : List ℕ) (values : List Float) (ch : ℕ) : T
 -- the loop has ended, and what was read is judged
 pub reading-all :
     {n : ℕ} {r : List ℕ} {values : List Float} {refused : ℕ}
-    → Reading n r values n → refused ≡ value_refusal (take (65 + 130 * n) values) → BlockRead n r values refused
+    → n ≤ 4 → Reading n r values n → refused ≡ value_refusal (take (65 + 130 * n) values) → BlockRead n r values refused
 unfolding capture_in residual_in
-reading-all {n} {r} {values} s told =
+reading-all {n} {r} {values} few s told =
     record { long = s.long; front = front; told = told ∙ ap value_refusal front }
   where
     lists : take (65 + n * 65 + n * 65) values ≡ numbers_in n r
     lists =
         two-together (65 + n * 65) (n * 65) values _ _
         (two-together 65 (n * 65) values _ _
-        (spectra-are s.render (omega (arith, s.few, s.long)) ∙ one-channel n r)
-        (spectra-are s.capture (omega (arith, s.few, s.long))))
-        (let at : 65 + n * 65 ≡ 65 + 65 * n = omega arith in rw at (spectra-are s.residual (omega (arith, s.few, s.long))))
+        (spectra-are s.render (omega (arith, few, s.long)) ∙ one-channel n r)
+        (spectra-are s.capture (omega (arith, few, s.long))))
+        (let at : 65 + n * 65 ≡ 65 + 65 * n = omega arith in rw at (spectra-are s.residual (omega (arith, few, s.long))))
 
     front : take (65 + 130 * n) values ≡ numbers_in n r
     front = let count : 65 + 130 * n ≡ 65 + n * 65 + n * 65 = omega arith in rw count lists

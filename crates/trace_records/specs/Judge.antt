@@ -66,7 +66,7 @@ flags_ok unknown = true
 
 -- its content: the first of 1 and 2 for settings, 6 for a block, or 0
 unfoldable pub content_refusal : Record → ℕ
-content_refusal (settings s) = limits_and_channels_refusal s.min s.max_l s.max_h s.num_capture_channels
+content_refusal (settings s) = limits_and_channels_refusal s.limits.min s.limits.max_l s.limits.max_h s.num_capture_channels
 content_refusal (block b) = value_refusal (b.render ++ b.capture ++ b.residual)
 content_refusal (reset delay_flag) = accepted
 content_refusal unknown = accepted

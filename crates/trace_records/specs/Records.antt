@@ -37,9 +37,7 @@ is_set b = eqb b 1
 unfoldable pub settings_in : List ℕ → SettingsRecord
 settings_in r =
     record {
-      min = value_at r 2;
-      max_l = value_at r 6;
-      max_h = value_at r 10;
+      limits = record { min = value_at r 2; max_l = value_at r 6; max_h = value_at r 10 };
       num_capture_channels = byte_at r 14;
       onset_flag = byte_at r 15;
       startup = word_at r 16;
@@ -51,14 +49,10 @@ settings_in r =
 unfoldable pub erle_settings : SettingsRecord → ErleSettings
 erle_settings s =
     record {
-      min = s.min;
-      max_l = s.max_l;
-      max_h = s.max_h;
+      limits = s.limits;
       onset_detection = is_set s.onset_flag;
       num_capture_channels = s.num_capture_channels;
-      num_sections = 1;
-      filter_length_blocks = 1;
-      delay_headroom_samples = 0;
+      layout = record { num_sections = 1; filter_length_blocks = 1; delay_headroom_samples = 0 };
       clamp_quality_estimate_to_zero = true;
       clamp_quality_estimate_to_one = true;
     }

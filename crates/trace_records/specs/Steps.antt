@@ -1,16 +1,15 @@
 -- What functions of the code promise besides; no part of the definition of a listing.
-use Rattle.std.specs.Prelude.{◌≡◌, ℕ, ◌+◌, ◌*◌, ◌≤◌, ◌<◌, Bool, false, cond, List, ◌++◌, ltb, Float, length, get_or, take, Result, MatchResult, ◌≢◌}
-use Rattle.std.specs.Float.{nan}
+use Rattle.std.specs.Prelude.{◌≡◌, ℕ, ◌+◌, ◌*◌, Bool, false, cond, List, ◌++◌, ltb, Float, length, take, Result, Ok, Err, MatchResult, ◌≢◌}
 use Rattle.aec3_common.specs.declared.refusal.Refusal.{Refusal}
 use Rattle.aec3_common.specs.declared.refusal.Refusal.TheVariants.{UnknownKind}
 use Rattle.aec3_common.specs.Calls.{value_refusal}
 use Rattle.aec3_common.specs.Lists.{tab}
 use Rattle.trace_records.specs.declared.judge.Standing.{Standing}
 use Rattle.trace_records.specs.declared.records.Decoded.{Decoded}
-use Rattle.trace_records.specs.declared.records.Decoded.TheVariants.{Settings, Block, Reset, Unknown}
+use Rattle.trace_records.specs.declared.records.Decoded.TheVariants.{Settings, Block, Reset}
 use Rattle.trace_records.specs.declared.records.RecordKind.{RecordKind}
 use Rattle.trace_records.specs.declared.records.RecordKind.TheVariants.{Settings as Kind·Settings, Block as Kind·Block, Reset as Kind·Reset}
-use Rattle.trace_records.specs.Records.{Record, settings, block, reset, unknown, settings_kind, block_kind, reset_kind, is_set, value_at, converged_byte, render_in, capture_in, residual_in, block_in}
+use Rattle.trace_records.specs.Records.{Record, settings, block, reset, unknown, settings_kind, block_kind, reset_kind, is_set, converged_byte, render_in, capture_in, residual_in, block_in}
 
 -- ---- a record in an enum
 
@@ -26,25 +25,18 @@ KindOf number r =
     MatchResult r (λ kind. number ≡ number_of_kind kind)
     (λ refusal. (refusal ≡ UnknownKind) × (number ≢ settings_kind) × (number ≢ block_kind) × (number ≢ reset_kind))
 
--- the record that it stands for, beside the bytes: it holds no spectra of a block
-unfoldable pub record_from : Standing → List ℕ → Decoded → Record
-record_from st r (Settings s) = settings s
-record_from st r Block = block (block_in st.num_capture_channels r)
-record_from st r (Reset delay_flag) = reset delay_flag
-record_from st r Unknown = unknown
+-- the record that a decoded one stands for, beside the bytes: it holds no spectra of a block; and where there is none, an unknown one
+unfoldable pub record_from : Standing → List ℕ → Result Decoded Refusal → Record
+record_from st r (Ok (Settings s)) = settings s
+record_from st r (Ok Block) = block (block_in st.num_capture_channels r)
+record_from st r (Ok (Reset delay_flag)) = reset delay_flag
+record_from st r (Err refusal) = unknown
 
 -- ---- a block, in tables
 
 -- the converged flags of n channels in a table of four; no behind them
 unfoldable pub flag_table : ℕ → List ℕ → List Bool
 flag_table n r = tab 4 (λ ch. cond (ltb ch n) (is_set (converged_byte r ch)) false)
-
--- The first so many numbers that begin at a place of a record stand in a table from an index on; elsewhere it is as it was.
-pub record NumbersRead (r : List ℕ) (place : ℕ) (before : List Float) (from count : ℕ) (values : List Float) : Type 0 where
-  pub long : length values ≡ 585
-  pub own : (k : ℕ) → k < count → get_or values (from + k) nan ≡ value_at r (place + 4 * k)
-  pub under : (k : ℕ) → k < from → get_or values k nan ≡ get_or before k nan
-  pub behind : (k : ℕ) → from + count ≤ k → get_or values k nan ≡ get_or before k nan
 
 -- All numbers of a block of n channels, list by list
 abbrev pub numbers_in : ℕ → List ℕ → List Float

@@ -1,6 +1,6 @@
 // The record that a slice of bytes begins with.
-ghost use Rattle.std.specs.Prelude.{◌≡◌, ◌≤◌, IfSome};
-ghost use Rattle.trace_records.specs.Frames.{frame_length, length_of};
+ghost use Rattle.std.specs.Prelude.{◌≡◌, ◌≤◌, true, false, IfSome, MatchOption};
+ghost use Rattle.trace_records.specs.Frames.{frame_length, framed, record_in, length_of};
 
 use encoding::word_at;
 
@@ -37,4 +37,13 @@ pub fn frame_length(s: &[u8]) -> Option<usize>
     } else {
         Some(length)
     }
+}
+
+// The whole record that bytes begin with, where they begin with one: what follows its L.
+pub fn frame(s: &[u8]) -> Option<&[u8]>
+    ensures { MatchOption result (framed s.now ≡ false) (λ bytes. (framed s.now ≡ true) × (bytes.now ≡ record_in s.now)) }
+{
+    let length = frame_length(s)?;
+    let end = LENGTH_SIZE + length;
+    Some(&s[LENGTH_SIZE..end])
 }

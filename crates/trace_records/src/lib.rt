@@ -5,6 +5,6 @@ pub mod frames;
 pub mod judge;
 pub mod records;
 
-pub use frames::{frame_length, length_of};
+pub use frames::{frame, frame_length, length_of};
 pub use judge::Standing;
-pub use records::{Decoded, RecordKind, SettingsRecord, decode, flags_in, read_block};
+pub use records::{BlockBytes, Decoded, RecordKind, SettingsRecord, decode, flags_in};

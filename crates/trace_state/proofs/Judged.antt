@@ -85,11 +85,11 @@ module _ (n : ℕ) (r : List ℕ) where
 
   -- the estimator's judging of a block in form, of a state that number 20 lets pass and that has no headroom: the record's values, no more
   pub update-judged :
-      (e : ErleEstimator) → channels_of e ≡ n → state_ok e ≡ true → e.settings.delay_headroom_samples ≡ 0
+      (e : ErleEstimator) → channels_of e ≡ n → state_ok e ≡ true → e.settings.layout.delay_headroom_samples ≡ 0
       → update_refusal e (update_in n b) ≡ content_refusal (block b)
   unfolding update_refusal content_refusal update_in ring_refusal
   update-judged e count ok flat =
-      rw (ok, eq-eqb n (channels_of e) (sym count), flat, lengths-pass e.settings.filter_length_blocks, values_same)
+      rw (ok, eq-eqb n (channels_of e) (sym count), flat, lengths-pass e.settings.layout.filter_length_blocks, values_same)
 
 -- no more rows are due than there are channels
 pub due-few : (t : Trace) → trace_ok t ≡ true → t.rows_due ≤ channels_of t.estimator
@@ -98,12 +98,12 @@ due-few t ok = leb-true t.rows_due (channels_of t.estimator) (and_left (leb t.ro
 
 -- a state with channels that 20 lets pass
 pub passing :
-    (t : Trace) → 1 ≤ channels_of t.estimator → trace_ok t ≡ true → (state_ok t.estimator ≡ true) × (t.estimator.settings.num_sections ≡ 1)
+    (t : Trace) → 1 ≤ channels_of t.estimator → trace_ok t ≡ true → (state_ok t.estimator ≡ true) × (t.estimator.settings.layout.num_sections ≡ 1)
 unfolding trace_ok
 passing t some ok =
     let e = t.estimator in
-    let one = eqb e.settings.num_sections 1 in
-    let flat = eqb e.settings.delay_headroom_samples 0 in
+    let one = eqb e.settings.layout.num_sections 1 in
+    let flat = eqb e.settings.layout.delay_headroom_samples 0 in
     let later = and_right (leb t.rows_due (channels_of e)) (eqb (channels_of e) 0 || (state_ok e && (one && flat))) ok in
     let both : state_ok e && (one && flat) ≡ true = rw (ne_eqb (channels_of e) 0 (λ z. omega arith)) at later in
     (and_left (state_ok e) (one && flat) both, eqb-true _ _ (and_left one flat (and_right (state_ok e) (one && flat) both)))

@@ -1,7 +1,6 @@
 pub mod Judged
 pub mod Running
 pub mod Range
-pub mod Room
 pub mod Turning
 pub mod Pieces
 pub mod Ahead

@@ -17,11 +17,9 @@ use Rattle.trace_records.specs.Judge.{refusal_ahead, may_go_on}
 use Rattle.trace_records.proofs.Framing.{framed-room}
 use Rattle.trace_text.specs.Text.{Item, line, lines}
 use Rattle.trace_state.specs.declared.Trace.{Trace}
-use Rattle.trace_state.specs.declared.Stop.{Stop}
-use Rattle.trace_state.specs.declared.Stop.TheVariants.{NoRecord, NoRoom, Refused, BadState}
 use Rattle.trace_state.specs.Apply.{channels_of, standing_of, next_of}
 use Rattle.trace_state.specs.Listing.{record_at, refusal_at, refused_at}
-use Rattle.trace_state.specs.Feed.{row_due, with_rows_due, first_due, next_in, Walk, Stopped, with_line, finds_room, refused_end, turn_by, go_on, turn_of, turns, ahead_of, feed_from, fed, items_ahead, items_left, TooLong, Lists, GivesListing}
+use Rattle.trace_state.specs.Feed.{Why, lacks_record, lacks_room, refused_under, state_refused, row_due, with_rows_due, first_due, next_in, Walk, Stopped, with_line, finds_room, refused_end, turn_by, go_on, turn_of, turns, ahead_of, feed_from, fed, items_ahead, items_left, TooLong, Lists, GivesListing}
 use Rattle.trace_state.proofs.Judged.{due-few}
 use Rattle.trace_state.proofs.Running.{due-next}
 use Rattle.trace_state.proofs.Turning.{next-is, turn-falls}
@@ -50,10 +48,10 @@ module _ (s : List ℕ) (ended : Bool) where
 
   -- it stops where it stands
   stops-here :
-      (w : Walk) (stop : Stop) → w.at ≤ length w.out → ((more : List ℕ) → items_left stop w.state (drop w.used s ++ more) ≡ here w more)
-      → (stop ≡ NoRoom → (more : List ℕ) → Follows more → TooLong w (here w more))
-      → (ended ≡ true → (stop ≡ NoRoom → ⊥) → items_left stop w.state (drop w.used s) ≡ [])
-      → (ended ≡ false → stop ≡ NoRecord → length (drop w.used s) < 65536) → (stop ≡ BadState → ⊥)
+      (w : Walk) (stop : Why) → w.at ≤ length w.out → ((more : List ℕ) → items_left stop w.state (drop w.used s ++ more) ≡ here w more)
+      → (stop ≡ lacks_room → (more : List ℕ) → Follows more → TooLong w (here w more))
+      → (ended ≡ true → (stop ≡ lacks_room → ⊥) → items_left stop w.state (drop w.used s) ≡ [])
+      → (ended ≡ false → stop ≡ lacks_record → length (drop w.used s) < 65536) → (stop ≡ state_refused → ⊥)
       → Lists s ended w (record { walk = w; stop = stop })
   unfolding lines
   stops-here w stop h left full all short passes =
@@ -70,25 +68,25 @@ module _ (s : List ℕ) (ended : Bool) where
         passes = passes;
       }
 
-  abbrev wants_room : Stop → Bool
-  wants_room NoRecord = false
-  wants_room NoRoom = true
-  wants_room (Refused number) = false
-  wants_room BadState = false
+  abbrev wants_room : Why → Bool
+  wants_room lacks_record = false
+  wants_room lacks_room = true
+  wants_room (refused_under number) = false
+  wants_room state_refused = false
 
-  abbrev wants_bytes : Stop → Bool
-  wants_bytes NoRecord = true
-  wants_bytes NoRoom = false
-  wants_bytes (Refused number) = false
-  wants_bytes BadState = false
+  abbrev wants_bytes : Why → Bool
+  wants_bytes lacks_record = true
+  wants_bytes lacks_room = false
+  wants_bytes (refused_under number) = false
+  wants_bytes state_refused = false
 
   -- for want of room
   too_long :
       (w : Walk) (i : Item) → w.at ≤ length w.out → finds_room w i ≡ false → ((more : List ℕ) → Follows more → (others : List Item) × (here w more ≡ i ∷ others))
-      → Lists s ended w (record { walk = w; stop = NoRoom })
+      → Lists s ended w (record { walk = w; stop = lacks_room })
   unfolding items_left
   too_long w i h long first =
-      stops-here w NoRoom h (λ more. refl)
+      stops-here w lacks_room h (λ more. refl)
       (λ is more follows. let (others, are) = first more follows in record { first = i; others = others; are = are; long = long })
       (λ end room. absurd (room refl))
       (λ goes is. absurd (false≢true (ap wants_bytes is)))
@@ -127,7 +125,7 @@ module _ (s : List ℕ) (ended : Bool) where
 
       go :
           (fits : Bool) → finds_room w i ≡ fits
-          → Lists s ended w (cond fits (record { walk = with_line w i w.state; stop = Refused n }) (record { walk = w; stop = NoRoom }))
+          → Lists s ended w (cond fits (record { walk = with_line w i w.state; stop = refused_under n }) (record { walk = w; stop = lacks_room }))
       go true fits =
           let room = leb-true (w.at + length (line i)) (length w.out) fits in
           let line-written : Wrote w.out w.at (line i) (laid w.out w.at (line i)) (w.at + length (line i)) = record { room = room; text = refl; place = refl } in
@@ -251,7 +249,7 @@ module _ (s : List ℕ) (ended : Bool) where
       go later false p true q false r =
           let is = next-is t ended rest false true false p q r in
           rw is
-          (stops-here w NoRecord l (λ more. refl) (λ is-full. absurd (false≢true (ap wants_room is-full)))
+          (stops-here w lacks_record l (λ more. refl) (λ is-full. absurd (false≢true (ap wants_room is-full)))
           (λ end other. ahead_none t rest (none-due p) (nothing_left (eqb (length rest) 0) refl (rw (r, end) at q)))
           (λ goes stop. less-left rest (eqb (length rest) 0) (ltb (length rest) 4) (length_ok (length_in rest)) refl refl refl r (rw (r, goes) at q))
           (λ bad. cc))

@@ -45,7 +45,7 @@ reset-state e delay_change ok = rw ok
 -- headroom.
 pub data Sound (e : ErleEstimator) : Type 0 where
   idle : channels_of e ≡ 0 → Sound e
-  going : Good e → e.settings.num_sections ≡ 1 → e.settings.delay_headroom_samples ≡ 0 → Sound e
+  going : Good e → e.settings.layout.num_sections ≡ 1 → e.settings.layout.delay_headroom_samples ≡ 0 → Sound e
 
 -- 20 lets its state pass, if no more rows are due than there are channels
 pub sound-ok : (t : Trace) → t.rows_due ≤ channels_of t.estimator → Sound t.estimator → trace_ok t ≡ true
@@ -55,8 +55,8 @@ sound-ok t few (going good section flat) =
     rw (
       le-leb t.rows_due (channels_of t.estimator) few,
       good-ok t.estimator good,
-      eq-eqb t.estimator.settings.num_sections 1 section,
-      eq-eqb t.estimator.settings.delay_headroom_samples 0 flat,
+      eq-eqb t.estimator.settings.layout.num_sections 1 section,
+      eq-eqb t.estimator.settings.layout.delay_headroom_samples 0 flat,
     )
     (either (eqb (channels_of t.estimator) 0))
   where
@@ -89,7 +89,7 @@ by-kinds st s P a b c d = go (eqb (kind_of s) settings_kind) (eqb (kind_of s) bl
     go false false false = d
 
 -- the limits that a settings record holds are read from bits
-values-held : (s : List ℕ) → let g = erle_settings (settings_in s) in InBinary32 g.min g.max_l g.max_h
+values-held : (s : List ℕ) → let g = erle_settings (settings_in s) in InBinary32 g.limits.min g.limits.max_l g.limits.max_h
 unfolding erle_settings settings_in value_at
 values-held s =
     record { min_held = of_bits-fits binary32 _; max_l_held = of_bits-fits binary32 _; max_h_held = of_bits-fits binary32 _ }
@@ -105,7 +105,7 @@ module _ (t : Trace) (s : List ℕ) where
   started x ok = start-judged x ∙ (both-passed (standing_of t) (length s) (settings x) ok).1
 
   -- there are channels, so that a run goes on
-  runs : Sound e → 1 ≤ channels_of e → Good e × (e.settings.num_sections ≡ 1) × (e.settings.delay_headroom_samples ≡ 0)
+  runs : Sound e → 1 ≤ channels_of e → Good e × (e.settings.layout.num_sections ≡ 1) × (e.settings.layout.delay_headroom_samples ≡ 0)
   runs (idle none) some = absurd (omega arith)
   runs (going good section flat) some = (good, section, flat)
 
@@ -130,8 +130,8 @@ module _ (t : Trace) (s : List ℕ) where
           let (good, section, flat) = runs sound (block-ok (standing_of t) (length s) b form).some in
           let fine = update-judged (channels_of e) s e refl (good-ok e good) flat ∙ values in
           going (subst Good (update-state e u fine) (update-good e u good))
-          (ap (λ (g : ErleSettings). g.num_sections) (update-settings e u) ∙ section)
-          (ap (λ (g : ErleSettings). g.delay_headroom_samples) (update-settings e u) ∙ flat)
+          (ap (λ (g : ErleSettings). g.layout.num_sections) (update-settings e u) ∙ section)
+          (ap (λ (g : ErleSettings). g.layout.delay_headroom_samples) (update-settings e u) ∙ flat)
 
       of-reset : Passes (reset (delay_flag_in s)) → Sound (after_reset e (is_set (delay_flag_in s)))
       of-reset ok =

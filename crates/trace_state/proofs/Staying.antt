@@ -12,10 +12,9 @@ use Rattle.trace_records.specs.Frames.{framed, record_in}
 use Rattle.trace_records.specs.Judge.{refusal_ahead}
 use Rattle.trace_text.specs.Text.{Item}
 use Rattle.trace_state.specs.declared.Trace.{Trace}
-use Rattle.trace_state.specs.declared.Stop.TheVariants.{NoRoom, Refused}
 use Rattle.trace_state.specs.Apply.{channels_of, standing_of, beginning, trace_ok}
 use Rattle.trace_state.specs.Listing.{refusal_at, refused_at}
-use Rattle.trace_state.specs.Feed.{row_due, with_rows_due, first_due, Walk, Stopped, with_line, finds_room, refused_end, turn_by, go_on, turn_of, turns, feed_from, fed}
+use Rattle.trace_state.specs.Feed.{lacks_room, refused_under, row_due, with_rows_due, first_due, Walk, Stopped, with_line, finds_room, refused_end, turn_by, go_on, turn_of, turns, feed_from, fed}
 use Rattle.trace_state.proofs.Running.{Sound, sound-ok, sound-beginning, sound-next, due-next}
 use Rattle.trace_state.proofs.Turning.{next-is}
 
@@ -38,7 +37,7 @@ stays-refused w n stays = go (finds_room w (refused_at w.state n))
   where
     go :
         (b : Bool)
-        → Stays (cond {A = Stopped} b (record { walk = with_line w (refused_at w.state n) w.state; stop = Refused n }) (record { walk = w; stop = NoRoom })).walk.state
+        → Stays (cond {A = Stopped} b (record { walk = with_line w (refused_at w.state n) w.state; stop = refused_under n }) (record { walk = w; stop = lacks_room })).walk.state
     go true = stays
     go false = stays
 

@@ -15,10 +15,9 @@ use Rattle.trace_records.proofs.Framing.{framed-room}
 use Rattle.trace_text.specs.Text.{Item, line}
 use Rattle.trace_text.proofs.Lines.{line-some}
 use Rattle.trace_state.specs.declared.Trace.{Trace}
-use Rattle.trace_state.specs.declared.Stop.TheVariants.{NoRecord, NoRoom}
 use Rattle.trace_state.specs.Apply.{standing_of, next_of}
 use Rattle.trace_state.specs.Listing.{record_at, refusal_at}
-use Rattle.trace_state.specs.Feed.{Next, row_due, taken, turned_away, nothing, with_rows_due, first_due, next_in, Walk, Stopped, Turn, on, ends, with_line, finds_room, refused_end, turn_by, go_on, turn_of, turns, ahead_of, feed_from}
+use Rattle.trace_state.specs.Feed.{lacks_record, lacks_room, Next, row_due, taken, turned_away, nothing, with_rows_due, first_due, next_in, Walk, Stopped, Turn, on, ends, with_line, finds_room, refused_end, turn_by, go_on, turn_of, turns, ahead_of, feed_from}
 
 -- ---- what comes next, by cases
 
@@ -101,7 +100,7 @@ module _ (s : List ℕ) (ended : Bool) where
       after = with_line w i (with_rows_due w.state (w.state.rows_due - 1))
 
       by-line :
-          (fits : Bool) → finds_room w i ≡ fits → cond fits (on after) (ends (record { walk = w; stop = NoRoom })) ≡ on next
+          (fits : Bool) → finds_room w i ≡ fits → cond fits (on after) (ends (record { walk = w; stop = lacks_room })) ≡ on next
           → ahead_of s ended next < ahead_of s ended w
       by-line true fits same = rw (← ap walk_of same) (line-falls w i (with_rows_due w.state (w.state.rows_due - 1)) fits)
       by-line false fits same = absurd (false≢true (ap goes same))
@@ -151,7 +150,7 @@ module _ (s : List ℕ) (ended : Bool) where
 
   pub fed-full :
       (w : Walk) → 0 < w.state.rows_due → finds_room w (first_due w.state) ≡ false
-      → feed_from s ended w ≡ record { walk = w; stop = NoRoom }
+      → feed_from s ended w ≡ record { walk = w; stop = lacks_room }
   unfolding turn_by
   fed-full w some full = fed-ends w _ (ap (turn_by w) (next_row w.state ended (drop w.used s) some) ∙ rw full)
 
@@ -172,6 +171,6 @@ module _ (s : List ℕ) (ended : Bool) where
     fed-refused is bad = fed-ends w _ (ap (turn_by w) (next-refused w.state ended ahead none is bad))
 
     pub fed-nothing :
-        refusal_ahead (standing_of w.state) ended ahead ≡ accepted → framed ahead ≡ false → feed_from s ended w ≡ record { walk = w; stop = NoRecord }
+        refusal_ahead (standing_of w.state) ended ahead ≡ accepted → framed ahead ≡ false → feed_from s ended w ≡ record { walk = w; stop = lacks_record }
     unfolding turn_by
     fed-nothing passes cut = fed-ends w _ (ap (turn_by w) (next-nothing w.state ended ahead none passes cut))

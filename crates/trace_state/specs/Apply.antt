@@ -21,7 +21,8 @@ channels_of e = e.settings.num_capture_channels
 abbrev pub standing_of : Trace → Standing
 standing_of t = record { num_capture_channels = channels_of t.estimator }
 
--- Before the first record: what a refused start answers with, so that no settings stand; nothing is counted, and no row is due.
+-- Before the first record: the estimator of settings that no start passes, which have no channels, so that no settings stand; nothing is counted,
+-- and no row is due.
 unfoldable pub beginning : Trace
 beginning = record { estimator = started_with 0 0 refused_settings; band = 0; blocks = 0; records = 0; rows_due = 0 }
 
@@ -29,7 +30,7 @@ beginning = record { estimator = started_with 0 0 refused_settings; band = 0; bl
 
 -- one section and no headroom: settings records start no other estimator
 abbrev pub one_section_no_headroom : ErleSettings → Bool
-one_section_no_headroom g = eqb g.num_sections 1 && eqb g.delay_headroom_samples 0
+one_section_no_headroom g = eqb g.layout.num_sections 1 && eqb g.layout.delay_headroom_samples 0
 
 -- No more rows are due than there are channels. Before settings nothing else is asked. After them 20 lets the estimator pass, and it has one
 -- section and no headroom, as settings records start it.

@@ -1,6 +1,7 @@
 -- A trace fed to the estimator in bytes: what comes next, again and again, until there is no whole record left, no room for a line, or a
 -- refusal.
 use Rattle.std.specs.Prelude.{◌≡◌, Bool, true, false, cond, List, [], ◌∷◌, ◌++◌, ℕ, zero, suc, ◌+◌, ◌-◌, ◌≤◌, ◌<◌, eqb, ltb, length, drop}
+use Rattle.aec3_common.specs.Answers.{number}
 use Rattle.aec3_common.specs.Refusal.{accepted}
 use Rattle.encoding.specs.Text.{laid, room}
 use Rattle.trace_records.specs.Frames.{length_in, framed, record_in, frames}
@@ -42,6 +43,20 @@ next_in t ended s =
 
 -- ---- feeding
 
+-- why it ends: no whole record is left, a line finds no room, a record is turned away under a number, or 20 turns the state away
+pub data Why : Type 0 where
+  lacks_record : Why
+  lacks_room : Why
+  refused_under : (number : ℕ) → Why
+  state_refused : Why
+
+-- the same of what the code answers
+abbrev pub why : Stop → Why
+why NoRecord = lacks_record
+why NoRoom = lacks_room
+why (Refused refusal) = refused_under (number refusal)
+why BadState = state_refused
+
 -- Where it stands: the state, how many bytes are done with, what the list holds that is written to, and the place where the next line goes.
 pub record Walk : Type 0 where
   pub state : Trace
@@ -52,7 +67,7 @@ pub record Walk : Type 0 where
 -- where it ends, and why
 pub record Stopped : Type 0 where
   pub walk : Walk
-  pub stop : Stop
+  pub stop : Why
 
 -- it goes on, or it ends
 pub data Turn : Type 0 where
@@ -71,14 +86,14 @@ finds_room w i = room w.out w.at (line i)
 unfoldable pub refused_end : Walk → ℕ → Stopped
 refused_end w number =
     let i = refused_at w.state number in
-    cond (finds_room w i) (record { walk = with_line w i w.state; stop = Refused number }) (record { walk = w; stop = NoRoom })
+    cond (finds_room w i) (record { walk = with_line w i w.state; stop = refused_under number }) (record { walk = w; stop = lacks_room })
 
 -- A line that finds no room ends it. A row is then still due; a refusal is found again in the bytes that are left.
 unfoldable pub turn_by : Walk → Next → Turn
-turn_by w (row_due i t) = cond (finds_room w i) (on (with_line w i t)) (ends (record { walk = w; stop = NoRoom }))
+turn_by w (row_due i t) = cond (finds_room w i) (on (with_line w i t)) (ends (record { walk = w; stop = lacks_room }))
 turn_by w (taken t size) = on (record { state = t; used = w.used + size; out = w.out; at = w.at })
 turn_by w (turned_away number) = ends (refused_end w number)
-turn_by w nothing = ends (record { walk = w; stop = NoRecord })
+turn_by w nothing = ends (record { walk = w; stop = lacks_record })
 
 unfoldable pub go_on : (Walk → Stopped) → Turn → Stopped
 go_on later (on w) = later w
@@ -90,7 +105,7 @@ module _ (s : List ℕ) (ended : Bool) where
 
   -- at most so many turns
   unfoldable pub turns : ℕ → Walk → Stopped
-  turns zero w = record { walk = w; stop = NoRecord }
+  turns zero w = record { walk = w; stop = lacks_record }
   turns (suc k) w = go_on (turns k) (turn_of w)
 
   -- Each turn that goes on takes some of the bytes or fills some of the room, so that there are no more turns than these.
@@ -104,7 +119,7 @@ module _ (s : List ℕ) (ended : Bool) where
 unfoldable pub fed : Trace → (s : List ℕ) → (ended : Bool) → (d : List ℕ) → ℕ → Stopped
 fed t s ended d at =
     let w : Walk = record { state = t; used = 0; out = d; at = at } in
-    cond (trace_ok t) (feed_from s ended w) (record { walk = w; stop = BadState })
+    cond (trace_ok t) (feed_from s ended w) (record { walk = w; stop = state_refused })
 
 -- ---- the claim
 
@@ -113,11 +128,11 @@ abbrev pub items_ahead : Trace → List ℕ → List Item
 items_ahead t s = due_rows t ++ items_of t (frames s)
 
 -- the same where feeding has stopped: nothing behind a refusal
-unfoldable pub items_left : Stop → Trace → List ℕ → List Item
-items_left NoRecord t s = items_ahead t s
-items_left NoRoom t s = items_ahead t s
-items_left (Refused number) t s = []
-items_left BadState t s = items_ahead t s
+unfoldable pub items_left : Why → Trace → List ℕ → List Item
+items_left lacks_record t s = items_ahead t s
+items_left lacks_room t s = items_ahead t s
+items_left (refused_under number) t s = []
+items_left state_refused t s = items_ahead t s
 
 -- the first of these finds no room
 pub record TooLong (w : Walk) (is : List Item) : Type 0 where
@@ -138,10 +153,10 @@ pub record Lists (s : List ℕ) (ended : Bool) (w : Walk) (x : Stopped) : Type 0
       (more : List ℕ) → (ended ≡ true → more ≡ [])
       → items_ahead w.state (drop w.used s ++ more) ≡ items ++ items_left x.stop x.walk.state (drop x.walk.used s ++ more)
   pub full :
-      x.stop ≡ NoRoom → (more : List ℕ) → (ended ≡ true → more ≡ []) → TooLong x.walk (items_ahead x.walk.state (drop x.walk.used s ++ more))
-  pub all : ended ≡ true → (x.stop ≡ NoRoom → ⊥) → items_left x.stop x.walk.state (drop x.walk.used s) ≡ []
-  pub short : ended ≡ false → x.stop ≡ NoRecord → length (drop x.walk.used s) < 65536
-  pub passes : x.stop ≡ BadState → ⊥
+      x.stop ≡ lacks_room → (more : List ℕ) → (ended ≡ true → more ≡ []) → TooLong x.walk (items_ahead x.walk.state (drop x.walk.used s ++ more))
+  pub all : ended ≡ true → (x.stop ≡ lacks_room → ⊥) → items_left x.stop x.walk.state (drop x.walk.used s) ≡ []
+  pub short : ended ≡ false → x.stop ≡ lacks_record → length (drop x.walk.used s) < 65536
+  pub passes : x.stop ≡ state_refused → ⊥
 
 -- Claim, which `feed` promises of every state that 20 lets pass. So that feeding a trace from the beginning on, in pieces or at once, gives its
 -- listing.

@@ -3,11 +3,13 @@
 
 pub mod records;
 
+use aec3_common::Refusal;
 use erle_estimator::ErleEstimator;
 pub use records::{beginning, state_ok};
 
-// The estimator, before settings that of a refused start; the printed band; the blocks of the whole trace so far, and the records; and how
-// many rows of the latest block are yet to be written, which are its last ones.
+// The estimator; the printed band; the blocks of the whole trace so far, and the records; and how many rows of the latest block are yet to be
+// written, which are its last ones. Before settings the estimator is that of settings that no start passes, with no channels. It is no Option:
+// number 20, what stands and the rows all read the count of its channels, and each would have to take it out of one first, to read 0 of None.
 #[derive(Clone, Copy, Debug)]
 pub struct Trace {
     pub estimator: ErleEstimator,
@@ -17,12 +19,12 @@ pub struct Trace {
     pub rows_due: usize,
 }
 
-// Why feeding stopped: no whole record is left; the next line finds no room; a record was refused under a number, and its line is written;
-// or 20 turns the state away, and nothing is written. The number stands there as the line shows it, since what a listing is, is said of numbers.
+// Why feeding stopped: no whole record is left; the next line finds no room; a record was refused, and its line is written; or 20 turns the
+// state away, and nothing is written.
 #[derive(Clone, Copy, Debug, PartialEq, Eq)]
 pub enum Stop {
     NoRecord,
     NoRoom,
-    Refused(u32),
+    Refused(Refusal),
     BadState,
 }

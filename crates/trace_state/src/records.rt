@@ -11,7 +11,7 @@ use aec3_common::counts::one_more;
 use erle_estimator::{refused_settings, started_with};
 use trace_records::{Decoded, SettingsRecord, decode};
 
-// Before the first record: the estimator of a refused start. Whatever bytes follow, 20 lets every state pass, and every printed figure is in range.
+// Before the first record: the estimator of settings that no start passes. Whatever bytes follow, 20 lets every state pass, and every printed figure is in range.
 pub fn beginning() -> Trace
     ensures value { result ≡ Apply·beginning }
     ensures judged_alone { JudgedAlone result }
@@ -37,7 +37,8 @@ pub fn state_ok(t: Trace) -> bool
     } else if settings.num_capture_channels == 0 {
         true
     } else {
-        t.estimator.ok() & ((settings.num_sections == 1) & (settings.delay_headroom_samples == 0))
+        let layout = settings.layout;
+        t.estimator.ok() & ((layout.num_sections == 1) & (layout.delay_headroom_samples == 0))
     }
 }
 
@@ -49,9 +50,9 @@ fn after_settings(t: Trace, settings: SettingsRecord) -> Trace
     Trace {
         estimator: started_with(settings.startup, 0, settings.into()),
         band: settings.band,
-        blocks: t.blocks,
         records: one_more(t.records),
         rows_due: 0,
+        ..t
     }
 }
 
@@ -68,15 +69,18 @@ fn after_reset(t: Trace, delay_flag: u32) -> Trace
     }
 }
 
-// The state after a record that is no block, by its kind. An unknown one does nothing, and is never accepted. (Of a block, which is asked of
-// `trace_blocks`, nothing is done here.)
+// The state after a record that is no block, by its kind. One of an unknown kind does nothing, and is never accepted. (Of a block, which is asked
+// of `trace_blocks`, nothing is done here.)
 pub fn after_record(t: Trace, record: &[u8]) -> Trace
     requires { is_block (record_at t «record».now) ≡ false }
     ensures { result ≡ next_of t (record_at t «record».now) }
 {
-    match decode(record) {
+    let Ok(decoded) = decode(record) else {
+        return t;
+    };
+    match decoded {
         Decoded::Settings(settings) => after_settings(t, settings),
         Decoded::Reset(delay_flag) => after_reset(t, delay_flag),
-        Decoded::Block | Decoded::Unknown => t,
+        Decoded::Block => t,
     }
 }

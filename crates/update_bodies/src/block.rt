@@ -1,7 +1,10 @@
 // A block of an estimator's input, as a record holds it.
+ghost use Rattle.std.specs.Prelude.{◌≡◌, vec_items, IfOk};
+ghost use Rattle.script.specs.Lists.{nth_word, past};
+ghost use Rattle.update_bodies.specs.Updates.{LengthsRead, HaveLengths, ListsRead};
+
 use aec3_common::Block;
-use script::{Fault, Fields, Malformed};
-use std::alloc::Global;
+use script::{Fault, Fields, FromFields, Malformed};
 
 // How many flags, and render, capture and residual numbers.
 #[derive(Clone, Copy, Debug)]
@@ -12,8 +15,12 @@ pub struct BlockLengths {
     e2: u32,
 }
 
-impl BlockLengths {
-    pub fn read(fields: &mut Fields) -> Result<BlockLengths, Malformed> {
+impl FromFields for BlockLengths {
+    type Error = Malformed;
+
+    ghost reads = { λ bytes lengths rest. LengthsRead 0 bytes lengths × (rest ≡ past 4 bytes) };
+
+    fn from_fields(fields: &mut Fields) -> Result<BlockLengths, Malformed> {
         Ok(BlockLengths {
             flags: fields.word()?,
             x2: fields.word()?,
@@ -34,23 +41,19 @@ pub struct BlockLists {
 }
 
 impl BlockLists {
-    // The update of a part of the ERLE estimator, alone: its channels, its lengths, its lists.
-    pub fn read(alloc: Global, fields: &mut Fields) -> Result<BlockLists, Fault> {
-        let num_capture_channels = fields.count()?;
-        let lengths = BlockLengths::read(fields)?;
-        BlockLists::read_lists(alloc, fields, num_capture_channels, lengths)
-    }
-
-    pub fn read_lists(
-        alloc: Global,
+    // The lists of these lengths, one behind the other.
+    pub fn read(
         fields: &mut Fields,
         num_capture_channels: usize,
         lengths: BlockLengths,
-    ) -> Result<BlockLists, Fault> {
-        let converged_filters = fields.flags(alloc, lengths.flags)?;
-        let x2 = fields.floats(alloc, lengths.x2)?;
-        let y2 = fields.floats(alloc, lengths.y2)?;
-        let e2 = fields.floats(alloc, lengths.e2)?;
+    ) -> Result<BlockLists, Fault>
+        ensures channels { IfOk result (λ lists. lists.num_capture_channels ≡ num_capture_channels) }
+        ensures lengths { IfOk result (HaveLengths lengths) }
+    {
+        let converged_filters = fields.flags(lengths.flags)?;
+        let x2 = fields.floats(lengths.x2)?;
+        let y2 = fields.floats(lengths.y2)?;
+        let e2 = fields.floats(lengths.e2)?;
         Ok(BlockLists {
             num_capture_channels,
             converged_filters,
@@ -60,7 +63,13 @@ impl BlockLists {
         })
     }
 
-    pub fn block(&self) -> Block<'_> {
+    pub fn block(&self) -> Block<'_>
+        ensures channels { result.num_capture_channels ≡ self.now.num_capture_channels }
+        ensures converged_filters { result.converged_filters.now ≡ vec_items self.now.converged_filters }
+        ensures x2 { result.x2.now ≡ vec_items self.now.x2 }
+        ensures y2 { result.y2.now ≡ vec_items self.now.y2 }
+        ensures e2 { result.e2.now ≡ vec_items self.now.e2 }
+    {
         Block {
             num_capture_channels: self.num_capture_channels,
             converged_filters: self.converged_filters.as_slice(),
@@ -68,5 +77,42 @@ impl BlockLists {
             y2: self.y2.as_slice(),
             e2: self.e2.as_slice(),
         }
+    }
+}
+
+// The update of a part of the ERLE estimator, alone: its channels, its lengths, its lists.
+impl FromFields for BlockLists {
+    type Error = Fault;
+
+    ghost reads = { λ bytes lists _. (lists.num_capture_channels ≡ nth_word 0 bytes) × ListsRead 1 bytes lists };
+
+    fn from_fields(fields: &mut Fields) -> Result<BlockLists, Fault> {
+        let num_capture_channels = fields.count()?;
+        let lengths = BlockLengths::from_fields(fields)?;
+        BlockLists::read(fields, num_capture_channels, lengths)
+    }
+}
+
+#[cfg(test)]
+mod tests {
+    use super::*;
+    use std::test::Fail;
+
+    #[test]
+    fn reads_the_update_of_a_part(rt: HostRuntime) -> Result<(), Fail> {
+        let bytes = [
+            1, 0, 0, 0, 1, 0, 0, 0, 1, 0, 0, 0, 1, 0, 0, 0, 1, 0, 0, 0, 1, 0, 0, 0x80, 0x3f, 0, 0,
+            0, 0x40, 0, 0, 0, 0xc0,
+        ];
+        let mut fields = Fields::new(rt.alloc(), &bytes);
+        let lists = BlockLists::from_fields(&mut fields)?;
+        assert_eq!(rt; fields.end(), Ok(()));
+        let block = lists.block();
+        assert_eq!(rt; block.num_capture_channels, 1);
+        assert_eq!(rt; block.converged_filters, [true].as_slice());
+        assert_eq!(rt; block.x2, [1.0].as_slice());
+        assert_eq!(rt; block.y2, [2.0].as_slice());
+        assert_eq!(rt; block.e2, [-2.0].as_slice());
+        Ok(())
     }
 }

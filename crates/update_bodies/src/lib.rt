@@ -5,5 +5,5 @@
 mod block;
 mod ring;
 
-pub use block::BlockLists;
-pub use ring::RingLists;
+pub use block::{BlockLengths, BlockLists};
+pub use ring::{AveragedLists, RingLists};

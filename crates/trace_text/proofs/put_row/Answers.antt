@@ -7,7 +7,7 @@ use Rattle.trace_text.proofs.put_row.Goals as goal
 pub returns : goal.returns
 unfolding line line_of spaced
 returns c =
-    let made : said c.put_text-2.new.self ≡ line (row c.args.block c.args.channel c.args.plain c.args.compensated c.args.uncapped) =
+    let made : said c.put_text-2.new.self ≡ line (row c.args.block c.args.channel c.args.figures.plain c.args.figures.compensated c.args.figures.uncapped) =
     rw (
       c.put_text-2.ensures.text,
       c.put_figure-3.ensures.text,

@@ -6,4 +6,4 @@ use Rattle.correction_factors.proofs.learning.count_updates.Goals as goal
 
 pub returns : goal.returns
 returns c =
-    changed-all 0 (λ s n. cond (lesson_at c.args.lessons.now s).updated (one_more n) n) c.change.ensures (search rules) (λ k x y h r. search rules)
+    changed-all 0 (λ s n. cond (lesson_at c.args.lessons.now.subbands s).updated (one_more n) n) c.change.ensures (search rules) (λ k x y h r. search rules)

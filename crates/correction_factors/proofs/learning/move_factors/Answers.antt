@@ -9,5 +9,5 @@ pub returns : goal.returns
 returns c =
     let a = c.args in
     learning-all
-    (λ j f. factor_moved (lesson_at a.lessons.now (subband_of j)).updated (get_or a.updates.now (subband_of j) 0) (get_or a.estimates.now j nan) (get_or a.references.now (subband_of j) nan) f)
+    (λ j f. factor_moved (lesson_at a.lessons.now.subbands (subband_of j)).updated (get_or a.updates.now (subband_of j) 0) (get_or a.estimates.now j nan) (get_or a.references.now (subband_of j) nan) f)
     c.change_learning.ensures (search rules) (λ j x y h r. search rules)

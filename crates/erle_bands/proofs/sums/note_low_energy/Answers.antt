@@ -6,6 +6,6 @@ use Rattle.erle_bands.specs.Steps.{lows_with}
 use Rattle.erle_bands.proofs.sums.note_low_energy.Goals as goal
 
 pub returns : goal.returns
-unfolding lows_with
+unfolding lows_with low_with
 returns c =
-    changed-all false (λ k low. low_with c.args.anew low (get_or c.args.x2.now k nan)) c.change.ensures (search rules) (λ k x y h r. search rules)
+    changed-all false (λ k low. low_with false low (get_or c.args.x2.now k nan)) c.change.ensures (search rules) (λ k x y h r. search rules)

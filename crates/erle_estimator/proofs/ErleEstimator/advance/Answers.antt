@@ -22,7 +22,7 @@ module _ (s : ErleEstimator) (p : Powers) {r : ErleEstimator} (moved : r ≡ mov
 
   sections-after : {n : ℕ} {active : ℕ → List ℕ} → SectionsFit s n active → SectionsFit r n active
   sections-after f =
-      let same = ap (λ (g : ErleSettings). g.num_sections) (sym settings-stay) in
+      let same = ap (λ (g : ErleSettings). g.layout.num_sections) (sym settings-stay) in
       record { some = rw same at f.some; few = rw same at f.few; below = rw same at f.below }
 
 -- the state with one block more counted, after the startup phase
@@ -32,7 +32,7 @@ module _ (s : ErleEstimator) (p : Powers) (active : ℕ → List ℕ) {blocks : 
 
   block-over :
       {r : ErleEstimator}
-      → r ≡ cond (ltb 1 s.settings.num_sections) (moved_by_sections (moved_by_powers from p) p active) (moved_by_powers from p)
+      → r ≡ cond (ltb 1 s.settings.layout.num_sections) (moved_by_sections (moved_by_powers from p) p active) (moved_by_powers from p)
       → r ≡ after_block s p active
   unfolding after_block counted
   block-over e =

@@ -35,7 +35,7 @@ returns c =
     all_from_yields_List Subband·channel_ok _ _ c.all-subband.result c.all-subband.ensures.ran
     (YieldsList-from_take n (YieldsList-from_slice s.subband (search rules)) (search rules)) (λ x b q k. search rules) in
     let signal =
-    all_from_yields_List (SignalDependent·channel_ok s.settings.num_sections) _ _ c.all-signal_dependent.result c.all-signal_dependent.ensures.ran
+    all_from_yields_List (SignalDependent·channel_ok s.settings.layout.num_sections) _ _ c.all-signal_dependent.result c.all-signal_dependent.ensures.ran
     (YieldsList-from_take n (YieldsList-from_slice s.signal_dependent (search rules)) (search rules)) (λ x b q k. search rules) in
     let fullband =
     all_from_yields_List FullBand·channel_ok _ _ c.all-fullband.result c.all-fullband.ensures.ran

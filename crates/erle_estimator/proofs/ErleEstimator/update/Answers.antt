@@ -8,7 +8,8 @@ use Rattle.aec3_common.proofs.Choices.{and-true}
 use Rattle.aec3_common.proofs.Values.{lesser-none}
 use Rattle.aec3_common.proofs.Tables.{length-mapped}
 use Rattle.section_echoes.specs.Steps.{all_active}
-use Rattle.subband_erle_estimator.proofs.Judged.{outcome-told, points-few}
+use Rattle.aec3_common.proofs.Refusals.{outcome-told}
+use Rattle.subband_erle_estimator.proofs.Judged.{points-few}
 use Rattle.signal_dependent_erle_estimator.specs.declared.settings.SignalDependentSettings.{SignalDependentSettings}
 use Rattle.signal_dependent_erle_estimator.specs.SignalDependent.{refusal_by}
 use Rattle.signal_dependent_erle_estimator.proofs.Judged.{one-section, eight-sections}
@@ -29,12 +30,12 @@ use Rattle.erle_estimator.proofs.ErleEstimator.update.Goals as goal
 refused-by :
     (s : ErleEstimator) (u : Update) {ok : Bool} {g : SignalDependentSettings} {n : ℕ}
     → ok ≡ state_ok s → g ≡ signal_settings s.settings
-    → n ≡ refusal_by ok g u (lent_lengths_ok g.filter_length_blocks u && true) (lesser (value_refusal (lent_values u)) accepted)
+    → n ≡ refusal_by ok g u (lent_lengths_ok g.layout.filter_length_blocks u && true) (lesser (value_refusal (lent_values u)) accepted)
     → update_refusal s u ≡ n
 unfolding update_refusal
 refused-by s u passes given e =
     sym (e ∙ (λ i.
-    refusal_by (passes i) (given i) u (and-true (lent_lengths_ok (given i).filter_length_blocks u) i) (lesser-none (value_refusal (lent_values u)) i)))
+    refusal_by (passes i) (given i) u (and-true (lent_lengths_ok (given i).layout.filter_length_blocks u) i) (lesser-none (value_refusal (lent_values u)) i)))
 
 -- an outcome that is no refusal has number 0
 passed : (r : Result (Unit {0}) Refusal) → is_ok r ≡ true → number_of r ≡ accepted
@@ -47,8 +48,8 @@ module _
     {s : ErleEstimator} {u : Update} (a : Accepted s u) {g : SignalDependentSettings} (given : g ≡ signal_settings s.settings)
     {active : List (List ℕ)}
     (found :
-    1 < g.num_sections
-    → active ≡ all_active u.ring u.spectra (headroom_blocks g.delay_headroom_samples) s.section_boundaries_blocks g.num_sections u.counts u.responses)
+    1 < g.layout.num_sections
+    → active ≡ all_active u.ring u.spectra (headroom_blocks g.layout.delay_headroom_samples) s.section_boundaries_blocks g.layout.num_sections u.counts u.responses)
   where
     block-fits : BlockFits s u.channels (powers_of u)
     block-fits =
@@ -68,7 +69,7 @@ module _
           points_fullband = λ ch h. few-points _ (channel-passed (fullband_part s) (fullband-passed s a.state) ch four-fullband (omega (arith, a.count)));
         }
 
-    sections-fit : 1 < s.settings.num_sections → SectionsFit s u.channels (λ ch. get_or active ch [])
+    sections-fit : 1 < s.settings.layout.num_sections → SectionsFit s u.channels (λ ch. get_or active ch [])
     sections-fit many =
         let ok = a.lent.state in
         record {

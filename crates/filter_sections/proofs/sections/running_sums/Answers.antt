@@ -1,18 +1,14 @@
-use Rattle.std.proofs.Common.{rules, arith, ◌≡◌, length}
+use Rattle.std.proofs.Common.{arith}
 use Rattle.aec3_common.specs.Lists.{tab}
 use Rattle.filter_sections.proofs.Loops.{summing-begun, summing-more, summing-over}
 use Rattle.filter_sections.proofs.sections.running_sums.Goals as goal
 
 pub loop-k-init : goal.loop-k-init
 unfolding tab
-loop-k-init c = summing-begun c.args.from c.args.sections 9 _ c.requires.from_bound.0 (omega arith)
+loop-k-init c = summing-begun c.args.from 9 _ c.requires.small (omega arith)
 
 pub loop-k-preserved : goal.loop-k-preserved
-loop-k-preserved c =
-    let eight : length c.args.sizes ≡ 8 = search rules in
-    summing-more c.loop-k.invariant c.loop-k-test.true (omega arith) (omega arith) (c.requires.by_index c.loop-k.k)
+loop-k-preserved c = summing-more c.loop-k.invariant c.loop-k-test.true (omega arith) (c.requires.by_index c.loop-k.k)
 
 pub returns : goal.returns
-returns c =
-    let eight : length c.args.sizes ≡ 8 = search rules in
-    summing-over c.loop-k.invariant c.loop-k-test.false (omega arith) (omega arith)
+returns c = summing-over c.loop-k.invariant c.loop-k-test.false (omega arith)

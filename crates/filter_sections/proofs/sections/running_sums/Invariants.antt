@@ -3,4 +3,4 @@ use Rattle.filter_sections.proofs.Loops.{Summing}
 use Rattle.filter_sections.proofs.sections.running_sums.Given as goal
 
 abbrev pub invariant-loop-k : goal.invariant-loop-k
-invariant-loop-k l = Summing l.from l.sections 9 l.sizes l.r l.k
+invariant-loop-k l = Summing l.from 9 l.sizes l.r l.k

@@ -9,23 +9,23 @@ pub returns-then-not-ok : goal.returns-then-not-ok
 unfolding sections_answer
 returns-then-not-ok c = search rules
 
-pub set_sections_boundaries-requires-clause-sections_nonzero : goal.set_sections_boundaries-requires-clause-sections_nonzero
-set_sections_boundaries-requires-clause-sections_nonzero c =
+pub invariant_of-filter : goal.invariant_of-filter
+invariant_of-filter c =
     let a = c.args.layout in
     let passed : sections_ok a.num_sections a.filter_length_blocks a.delay_headroom_samples ≡ true = search rules in
-    let ok = sections-in-ranges a.num_sections a.filter_length_blocks a.delay_headroom_samples passed in (
-      some-sections a.num_sections a.filter_length_blocks a.delay_headroom_samples ok,
-      few-sections a.num_sections a.filter_length_blocks a.delay_headroom_samples ok,
-    )
+    let ok = sections-in-ranges a.num_sections a.filter_length_blocks a.delay_headroom_samples passed in
+    record {
+      some = some-sections a.num_sections a.filter_length_blocks a.delay_headroom_samples ok;
+      few = few-sections a.num_sections a.filter_length_blocks a.delay_headroom_samples ok;
+      short = omega (arith, short-filter a.num_sections a.filter_length_blocks a.delay_headroom_samples ok);
+    }
 
-pub set_sections_boundaries-requires-clause-blocks_bound : goal.set_sections_boundaries-requires-clause-blocks_bound
-set_sections_boundaries-requires-clause-blocks_bound c =
+pub boundaries-requires : goal.boundaries-requires
+boundaries-requires c =
     let a = c.args.layout in
     let passed : sections_ok a.num_sections a.filter_length_blocks a.delay_headroom_samples ≡ true = search rules in
-    let ok = sections-in-ranges a.num_sections a.filter_length_blocks a.delay_headroom_samples passed in (
-      omega (arith, short-filter a.num_sections a.filter_length_blocks a.delay_headroom_samples ok),
-      omega (arith, c.headroom_blocks-headroom.ensures, div-le_self a.delay_headroom_samples 64, short-headroom a.num_sections a.filter_length_blocks a.delay_headroom_samples ok),
-    )
+    let ok = sections-in-ranges a.num_sections a.filter_length_blocks a.delay_headroom_samples passed in
+    omega (arith, c.headroom_blocks.ensures, div-le_self a.delay_headroom_samples 64, short-headroom a.num_sections a.filter_length_blocks a.delay_headroom_samples ok)
 
 pub returns : goal.returns
 unfolding sections_answer

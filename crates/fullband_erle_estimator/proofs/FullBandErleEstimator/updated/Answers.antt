@@ -5,9 +5,8 @@ use Rattle.aec3_common.proofs.Tables.{length-mapped, stored-none, stored-not-yet
 use Rattle.fullband_channel.proofs.Judged.{few-points}
 use Rattle.fullband_erle_estimator.specs.FullBand.{state_ok, update_refusal}
 use Rattle.fullband_erle_estimator.proofs.Judged.{state-few, channel-passed}
-use Rattle.fullband_erle_estimator.proofs.Updates.{heard-channel, quiet-channel, updating-more, updating-all}
+use Rattle.fullband_erle_estimator.proofs.Updates.{own-after, updating-more, updating-all}
 use Rattle.fullband_erle_estimator.proofs.FullBandErleEstimator.updated.Goals as goal
-use Rattle.fullband_erle_estimator.proofs.FullBandErleEstimator.updated.Goals.{then-loud-block, else-loud-block}
 
 pub loop-ch-init : goal.loop-ch-init
 unfolding update_refusal
@@ -20,15 +19,15 @@ loop-ch-init c =
       so_far = record { ok = ok; settings = refl; stored = stored-none _ _ _ _ _ (omega arith) four };
     }
 
-pub update-requires-clause-room : goal.update-requires-clause-room
-update-requires-clause-room c =
+pub after_block-requires-clause-room : goal.after_block-requires-clause-room
+after_block-requires-clause-room c =
     let s = c.args.self in
     let u = c.loop-ch.invariant.so_far in
     let four : length s.channels ≡ 4 = search (rules, length-mapped) in
     rw (stored-not-yet u.stored) (few-points _ (channel-passed s u.ok.state c.loop-ch.ch four c.loop-ch-test.true))
 
-pub update-requires-clause-as_long : goal.update-requires-clause-as_long
-update-requires-clause-as_long c =
+pub after_block-requires-clause-as_long : goal.after_block-requires-clause-as_long
+after_block-requires-clause-as_long c =
     let block = c.args.block.now in
     let ch = c.loop-ch.ch in
     let u = c.loop-ch.invariant.so_far in
@@ -51,17 +50,9 @@ loop-ch-preserved c =
       few = few;
       so_far =
           updating-more s flags block.x2.now block.y2.now block.e2.now c.loop-ch.self ch _ u h few
-          (elim c.if-loud-block.branch [
-            | then-loud-block w ↦
-                w.self-is
-                ∙ w.update.ensures
-                ∙ rw (w.own_y2.ensures, w.own_e2.ensures, c.min_erle_log2-min_erle_log2.ensures)
-                (heard-channel s flags _ _ _ ch _ below (rw c.is_loud-loud.ensures at w.if-loud-block.true) held)
-            | else-loud-block w ↦
-                w.self-is
-                ∙ w.decay.ensures
-                ∙ quiet-channel s flags _ _ _ ch _ below (rw c.is_loud-loud.ensures at w.if-loud-block.false) held
-          ]);
+          (c.after_block.ensures
+          ∙ rw (c.own_y2.ensures, c.own_e2.ensures, c.min_erle_log2-min_erle_log2.ensures, c.is_loud-loud.ensures)
+          (own-after s flags block.x2.now block.y2.now block.e2.now ch _ below held));
     }
 
 pub returns : goal.returns

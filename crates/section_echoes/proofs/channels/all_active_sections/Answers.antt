@@ -1,3 +1,4 @@
+use Rattle.std.proofs.Common.{rules}
 use Rattle.aec3_common.specs.Lists.{tab}
 use Rattle.section_echoes.proofs.EachChannel.{going-begun, going-enough, going_more, going-over}
 use Rattle.section_echoes.proofs.channels.all_active_sections.Goals as goal
@@ -14,7 +15,7 @@ loop-ch-preserved c =
     let plan = c.args.plan.now in
     going_more c.loop-ch.invariant (plan.some_sections, plan.few_sections)
     c.renew_render_sums.ensures c.split_at.ensures.front c.split_at.ensures.back c.split_at.ensures.front_len
-    c.echo_sums-echoes.ensures c.active_sections.ensures
+    c.echo_sums-echoes.ensures (search rules) c.active_sections.ensures
     c.loop-ch-test.true c.requires.few_channels
 
 pub returns : goal.returns

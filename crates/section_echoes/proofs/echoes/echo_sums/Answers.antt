@@ -17,7 +17,7 @@ loop-s-init c =
     let response = c.section_response-response.result in
     stored_more c.from_fn.result (sections-begun plan.num_sections (echo_at render responses plan.boundaries (length c.args.responses.now / 65))) plan.some_sections plan.few_sections
     (echo-first render responses plan.boundaries (length c.args.responses.now / 65)
-    (section-response-is plan.boundaries (length c.args.responses.now / 65) 0 c.min.ensures responses c.section_response-response.ensures)
+    (section-response-is plan.boundaries (length c.args.responses.now / 65) 0 (rw c.as_chunks.ensures.front_len at c.min.ensures) responses (c.section_response-response.ensures responses c.as_chunks.ensures.front))
     (made-all _ _ (λ k. mul binary32 (sum_at render 0 k) (get_or response k nan)) (λ k y q called. (search rules, search rules)) 65 c.from_fn.result nan c.from_fn.ensures.items))
 
 pub loop-s-preserved : goal.loop-s-preserved
@@ -30,7 +30,7 @@ loop-s-preserved c =
     let before = get_or c.loop-s.r (s - 1) [] in
     stored_more c.from_fn-in-loop-s.result c.loop-s.invariant c.loop-s-test.true plan.few_sections
     (echo-next render responses plan.boundaries (length c.args.responses.now / 65) s c.loop-s.auto.s-counter
-    (section-response-is plan.boundaries (length c.args.responses.now / 65) s c.min-in-loop-s.ensures responses c.section_response-response-in-loop-s.ensures)
+    (section-response-is plan.boundaries (length c.args.responses.now / 65) s (rw c.as_chunks.ensures.front_len at c.min-in-loop-s.ensures) responses (c.section_response-response-in-loop-s.ensures responses c.as_chunks.ensures.front))
     (c.loop-s.invariant.done (s - 1) (omega arith) (omega arith))
     (made-all _ _ (λ k. add binary32 (mul binary32 (sum_at render s k) (get_or response k nan)) (get_or before k nan)) (λ k y q called. (search rules, search rules)) 65 c.from_fn-in-loop-s.result nan c.from_fn-in-loop-s.ensures.items))
 

@@ -1,19 +1,19 @@
-use Rattle.std.proofs.Common.{◌≡◌, ℕ, ◌*◌, ◌<◌, ◌≤◌, pos, arith, ap, ◌∙◌, le_refl}
-use mir.Syntax.{w64}
+use Rattle.std.proofs.Common.{rules, to_z, w64, ◌≡◌, ℕ, ◌*◌, ◌+◌, ◌<◌, ◌≤◌, pos, arith, ap, ◌∙◌, le_refl}
 use mir.Facts.{to_z-of_z}
 use Rattle.aec3_common.specs.Lists.{tab}
 use Rattle.spectrum_buffer.specs.Ring.{offset_place, max_slots}
+use Rattle.aec3_common.specs.Settings.{max_filter_length_blocks}
 use Rattle.section_echoes.specs.declared.RenderRing.{RenderRing}
 use Rattle.section_echoes.specs.Walk.{walked_place}
 use Rattle.section_echoes.proofs.Walks.{walking-begun, walking_on, walking-more, walking-over, walked-first, walked-below, position-small}
 use Rattle.section_echoes.proofs.walk.walked_positions.Goals as goal
 
 -- the machine reads headroom as itself
-begins : (c : goal.After-offset_place-place) → c.offset_place-place.result ≡ offset_place c.args.ring.slots c.args.ring.position (pos c.args.headroom)
-begins c =
-    c.offset_place-place.ensures
-    ∙ ap (offset_place c.args.ring.slots c.args.ring.position)
-    (to_z-of_z {w = w64} {z = pos c.args.headroom} (record { sfits = omega (arith, c.requires.3) }))
+begins :
+    (slots position headroom : ℕ) {place : ℕ}
+    → headroom < max_filter_length_blocks → place ≡ offset_place slots position (to_z w64 headroom) → place ≡ offset_place slots position (pos headroom)
+begins slots position headroom few at =
+    at ∙ ap (offset_place slots position) (to_z-of_z {w = w64} {z = pos headroom} (record { sfits = omega arith }))
 
 -- a place that the walk takes has a small position
 small :
@@ -30,28 +30,28 @@ overflow_mul-r c =
       fits =
           omega (
             arith,
-            small c.args.ring c.args.headroom c.offset_place-place.result c.args.headroom (begins c ∙ begun) c.requires.0 c.requires.1 c.requires.2,
+            small c.args.ring c.args.headroom c.offset_place-place.result c.args.headroom (begins c.args.ring.slots c.args.ring.position c.args.headroom c.requires.3 c.offset_place-place.ensures ∙ begun) c.requires.0 c.requires.1 c.requires.2,
           );
     }
 
-pub loop-block-init : goal.loop-block-init
-unfolding tab
-loop-block-init c = walking-begun _ _ c.offset_place-place.result (begins c) c.requires.3
+pub loop-position-init : goal.loop-position-init
+loop-position-init c = walking-begun _ _ c.offset_place-place.result (begins c.args.ring.slots c.args.ring.position c.args.headroom c.requires.3 c.offset_place-place.ensures) (omega arith)
 
-pub overflow_mul-r-in-loop-block : goal.overflow_mul-r-in-loop-block
-overflow_mul-r-in-loop-block c =
+pub overflow_mul-position : goal.overflow_mul-position
+overflow_mul-position c =
     record {
       fits =
           omega (
             arith,
-            small c.args.ring c.args.headroom c.next_place-place.result c.loop-block.block
-                (walking_on _ _ c.loop-block.invariant _ c.next_place-place.ensures)
+            small c.args.ring c.args.headroom c.next_place-place.result (c.args.headroom + 1 + c.loop-position.position-index)
+                (walking_on _ _ c.loop-position.invariant _ c.next_place-place.ensures)
                 c.requires.0 c.requires.1 c.requires.2,
           );
     }
 
-pub loop-block-preserved : goal.loop-block-preserved
-loop-block-preserved c = walking-more _ _ c.loop-block.invariant c.next_place-place.result c.next_place-place.ensures c.loop-block-test.true
+pub loop-position-preserved : goal.loop-position-preserved
+loop-position-preserved c = walking-more _ _ c.loop-position.invariant c.next_place-place.result c.next_place-place.ensures (search rules)
 
 pub returns : goal.returns
-returns c = walking-over _ _ c.loop-block.invariant c.loop-block-test.false
+unfolding tab
+returns c = walking-over _ _ c.loop-position.invariant c.offset_place-place.result (begins c.args.ring.slots c.args.ring.position c.args.headroom c.requires.3 c.offset_place-place.ensures) c.requires.3 (search rules)

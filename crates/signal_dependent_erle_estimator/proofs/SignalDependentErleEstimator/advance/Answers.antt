@@ -1,9 +1,10 @@
-use Rattle.std.proofs.Common.{◌≡◌, length, refl, ap, ◌∙◌, le-ltb, arith, rules}
+use Rattle.std.proofs.Common.{◌≡◌, length, ap, ◌∙◌, le-ltb, arith, rules}
+use Rattle.aec3_common.specs.Spectra.{part}
 use Rattle.aec3_common.proofs.Bands.{part_length}
-use Rattle.aec3_common.proofs.Tables.{length-mapped, stored-none, stored-not-yet}
-use Rattle.signal_dependent_erle_estimator.specs.SignalDependent.{after_block, after_accepted}
+use Rattle.aec3_common.proofs.Tables.{length-mapped}
+use Rattle.signal_dependent_erle_estimator.specs.SignalDependent.{powers_of, update_of, after_block, after_accepted}
 use Rattle.signal_dependent_erle_estimator.proofs.Judged.{few-captures, one-section, eight-sections, update-passed}
-use Rattle.signal_dependent_erle_estimator.proofs.Updates.{found-asks, found-at, found-within, block-alone, updating-more, updating-done}
+use Rattle.signal_dependent_erle_estimator.proofs.Updates.{found-asks, found-at, found-within, made-after, block-alone}
 use Rattle.signal_dependent_erle_estimator.proofs.SignalDependentErleEstimator.advance.Goals as goal
 
 pub active_sections-active-requires : goal.active_sections-active-requires
@@ -18,56 +19,43 @@ active_sections-active-requires c =
 pub subband_sums-x2_subbands-requires : goal.subband_sums-x2_subbands-requires
 subband_sums-x2_subbands-requires c = (update-passed _ _ _ _ c.requires).lent.render
 
-pub loop-ch-init : goal.loop-ch-init
-loop-ch-init c =
-    let lent = (update-passed _ _ _ _ c.requires).lent in
+pub change-requires-clause-within : goal.change-requires-clause-within
+change-requires-clause-within c =
     let four : length c.args.self.now.channels ≡ 4 = search (rules, length-mapped) in
-    record {
-      few = few-captures _ lent.state;
-      flags = lent.flags ∙ lent.count;
-      so_far = record { settings = refl; boundaries = refl; stored = stored-none _ _ _ _ _ (omega arith) four };
-    }
+    omega (arith, four, few-captures _ (update-passed _ _ _ _ c.requires).lent.state)
 
-pub update-requires-clause-bound : goal.update-requires-clause-bound
-update-requires-clause-bound c =
-    let ok = (update-passed _ _ _ _ c.requires).lent.state in
-    (one-section _ ok, eight-sections _ ok)
-
-pub update-requires-clause-active_value : goal.update-requires-clause-active_value
-update-requires-clause-active_value c =
-    let lent = (update-passed _ _ _ _ c.requires).lent in
-    found-within c.args.self.now _ lent c.active_sections-active.ensures c.if-settings-gt1.true c.loop-ch.ch (omega (arith, lent.count, c.loop-ch-test.true))
-
-pub update-requires-clause-y2_len : goal.update-requires-clause-y2_len
-update-requires-clause-y2_len c =
+pub change-requires-clause-callable : goal.change-requires-clause-callable
+change-requires-clause-callable c k d from below =
     let ok = update-passed _ _ _ _ c.requires in
-    let h = c.loop-ch-test.true in (
-      ap length c.own_y2.ensures ∙ part_length _ _ (omega (arith, h, ok.lent.count, ok.lent.capture)),
-      ap length c.own_e2.ensures ∙ part_length _ _ (omega (arith, h, ok.lent.count, ok.lent.residual)),
-      ap length c.part.ensures ∙ part_length _ _ (omega (arith, h, ok.lent.count, ok.plain)),
-      ap length c.part-in-loop-ch.ensures ∙ part_length _ _ (omega (arith, h, ok.lent.count, ok.compensated)),
+    let lent = ok.lent in
+    let few = few-captures _ lent.state in (
+      λ κs p values ranges told u v plain compensated l. (
+        omega (arith, below, lent.flags, lent.count),
+        (
+          (omega (arith, below, lent.capture, lent.count), omega (arith, below, lent.residual, lent.count)),
+          (
+            ap length plain.ensures ∙ part_length _ _ (omega (arith, below, ok.plain, lent.count)),
+            ap length compensated.ensures ∙ part_length _ _ (omega (arith, below, ok.compensated, lent.count)),
+          ),
+        ),
+      ),
+      λ κs p values ranges told u v plain compensated new w. record { fits = omega (arith, below, few) },
+      λ κs p values ranges told u v plain compensated new w. omega (arith, below, few),
+      λ κs p values ranges told u v plain compensated new w g l. (
+        (one-section _ lent.state, eight-sections _ lent.state),
+        found-within c.args.self.now _ lent c.active_sections-active.ensures c.if-settings-gt1.true k (omega (arith, below, lent.count)),
+      ),
     )
 
-pub loop-ch-preserved : goal.loop-ch-preserved
-loop-ch-preserved c =
-    let at = c.loop-ch.invariant in
-    record {
-      few = at.few;
-      flags = at.flags;
-      so_far =
-          updating-more at.so_far c.loop-ch-test.true at.few
-          (c.update.ensures
-          ∙ rw (c.own_y2.ensures, c.own_e2.ensures, c.part.ensures, c.part-in-loop-ch.ensures, stored-not-yet at.so_far.stored)
-          refl);
-    }
-
-pub returns-after-loop-ch : goal.returns-after-loop-ch
+pub returns-then-settings-gt1 : goal.returns-then-settings-gt1
 unfolding after_accepted
-returns-after-loop-ch c =
+returns-then-settings-gt1 c =
+    let s = c.args.self.now in
     let lent = (update-passed _ _ _ _ c.requires).lent in
-    updating-done c.loop-ch.invariant.so_far _ _ _ c.if-settings-gt1.true c.loop-ch-test.false c.subband_sums-x2_subbands.ensures (λ ch. refl)
-    ∙ block-alone c.args.self.now _ _ _
-    (λ many ch h. found-at c.args.self.now _ lent c.active_sections-active.ensures many ch (omega (arith, h, lent.count)))
+    made-after s (powers_of (update_of c.args.inputs.now)) _ (part c.args.averages.now.plain.now) (part c.args.averages.now.compensated.now)
+    c.change.ensures (search (rules, length-mapped)) (λ k x y h r. search rules) c.if-settings-gt1.true
+    ∙ block-alone s _ _ _
+    (λ many ch h. found-at s _ lent c.active_sections-active.ensures many ch (omega (arith, h, lent.count)))
 
 pub returns-else-settings-gt1 : goal.returns-else-settings-gt1
 unfolding after_accepted after_block

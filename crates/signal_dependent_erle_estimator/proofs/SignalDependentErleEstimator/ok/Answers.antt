@@ -18,6 +18,6 @@ unfolding state_ok
 returns c =
     let s = c.args.self.now in
     rw (sym c.if-not-settings_pass.ensures)
-    (all_from_yields_List (channel_ok s.settings.num_sections) _ _ c.all.result c.all.ensures.ran
+    (all_from_yields_List (channel_ok s.settings.layout.num_sections) _ _ c.all.result c.all.ensures.ran
     (YieldsList-from_take s.settings.num_capture_channels (YieldsList-from_slice s.channels (search rules)) (search rules))
     (λ x b q k. search rules))

@@ -6,10 +6,10 @@ pub returns-in-Ok-clause-held : goal.returns-in-Ok-clause-held
 returns-in-Ok-clause-held g c =
     let e = c.in-Ok.ensures in
     let l = c.read.auto.buf in
-    read-some c.args.input.now c.copy_within.new.self c.read.new.buf c.args.from c.args.to (length c.copy_within.new.self - (c.args.to - c.args.from)) c.requires.ordered c.requires.within c.copy_within.ensures.len c.copy_within.ensures.after (search rules)
+    read-some c.args.input.now c.copy_within.new.self c.read.new.buf c.args.held.from c.args.held.to (length c.copy_within.new.self - (c.args.held.to - c.args.held.from)) c.requires.ordered c.requires.within c.copy_within.ensures.len c.copy_within.ensures.after (search rules)
     c.in-Ok.count (e.bound.0) (search rules) e.bytes
 
 pub returns-in-Interrupted-clause-held : goal.returns-in-Interrupted-clause-held
 returns-in-Interrupted-clause-held g c =
-    read-none c.args.input.now c.copy_within.new.self c.read.new.buf c.args.from c.args.to (length c.copy_within.new.self - (c.args.to - c.args.from)) c.requires.ordered c.requires.within c.copy_within.ensures.len c.copy_within.ensures.after (search rules)
+    read-none c.args.input.now c.copy_within.new.self c.read.new.buf c.args.held.from c.args.held.to (length c.copy_within.new.self - (c.args.held.to - c.args.held.from)) c.requires.ordered c.requires.within c.copy_within.ensures.len c.copy_within.ensures.after (search rules)
     c.in-Err.ensures.bytes

@@ -6,8 +6,8 @@ use Rattle.streaming.proofs.transducer.run.Given as goal
 abbrev pub invariant-loop : goal.invariant-loop
 invariant-loop g l =
     (g.T.Transducer.sound l.job)
-    × (l.from ≤ l.to)
-    × (l.to ≤ length l.input)
+    × (l.held.from ≤ l.held.to)
+    × (l.held.to ≤ length l.input)
     × (length l.input ≡ length l.initial.input)
     × Pipe (g.R.Read.remaining l.initial.reader) (g.R.Read.remaining l.reader) (g.W.Write.contents l.initial.writer) (g.W.Write.contents l.writer)
-    g.T.Transducer.whole (g.T.Transducer.ahead l.job) (take (l.to - l.from) (drop l.from l.input)) l.ended
+    g.T.Transducer.whole (g.T.Transducer.ahead l.job) (take (l.held.to - l.held.from) (drop l.held.from l.input)) l.held.ended

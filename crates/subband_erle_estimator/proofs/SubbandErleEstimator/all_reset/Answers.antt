@@ -11,5 +11,5 @@ returns c =
     λ i.
     record {
       settings = c.args.self.settings;
-      channels = changed-all {n = 4} no_channel (λ k channel. fresh c.args.self.settings.min) c.change.ensures (search (rules, length-mapped)) (λ k x y h r. search rules) i;
+      channels = changed-all {n = 4} no_channel (λ k channel. fresh c.args.self.settings.limits.min) c.change.ensures (search (rules, length-mapped)) (λ k x y h r. search rules) i;
     }

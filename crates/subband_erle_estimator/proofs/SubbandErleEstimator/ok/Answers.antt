@@ -3,7 +3,7 @@ use Rattle.std.proofs.lemmas.Iterator.{YieldsList-from_slice, YieldsList-from_ta
 use Rattle.std.proofs.lemmas.Iterator.Search.{all_from_yields_List}
 use Rattle.aec3_common.specs.Refusal.{accepted}
 use Rattle.subband_erle_estimator.specs.Subband.{settings_refusal, channel_ok, state_ok}
-use Rattle.subband_erle_estimator.proofs.Judged.{outcome-told}
+use Rattle.aec3_common.proofs.Refusals.{outcome-told}
 use Rattle.subband_erle_estimator.proofs.SubbandErleEstimator.ok.Goals as goal
 
 pub returns-then-is_ok : goal.returns-then-is_ok

@@ -6,13 +6,13 @@ use Rattle.aec3_common.specs.Calls.{call_refusal}
 use Rattle.aec3_common.specs.Refusal.{accepted}
 use Rattle.aec3_common.proofs.Bands.{part_length}
 use Rattle.aec3_common.proofs.Calls.{update-ok}
+use Rattle.aec3_common.proofs.Refusals.{outcome-told}
 use Rattle.aec3_common.proofs.Tables.{length-mapped, stored-none, stored-not-yet}
 use Rattle.subband_erle_estimator.specs.declared.SubbandErleEstimator.{SubbandErleEstimator}
 use Rattle.subband_erle_estimator.specs.Subband.{state_ok, update_refusal, update_answer}
-use Rattle.subband_erle_estimator.proofs.Judged.{outcome-told, state-few, points-few}
-use Rattle.subband_erle_estimator.proofs.Updates.{converged-channel, quiet-channel, updating-more, updating-all}
+use Rattle.subband_erle_estimator.proofs.Judged.{state-few, points-few}
+use Rattle.subband_erle_estimator.proofs.Updates.{stepped-channel, updating-more, updating-all}
 use Rattle.subband_erle_estimator.proofs.SubbandErleEstimator.update.Goals as goal
-use Rattle.subband_erle_estimator.proofs.SubbandErleEstimator.update.Goals.{then-block-ch, else-block-ch}
 
 -- the state is judged, and the call
 refused-by :
@@ -45,15 +45,15 @@ loop-ch-init c =
       record { ok = ok; settings = refl; stored = stored-none _ _ _ _ _ (omega arith) (search (rules, length-mapped)) },
     )
 
-pub update-requires-clause-num_points_bound : goal.update-requires-clause-num_points_bound
-update-requires-clause-num_points_bound c =
+pub step_in_place-requires-clause-num_points_bound : goal.step_in_place-requires-clause-num_points_bound
+step_in_place-requires-clause-num_points_bound c =
     let at = c.loop-ch in
     let u = at.invariant.2 in
     rw (stored-not-yet u.stored)
     (points-few c.args.self at.ch u.ok.state (search (rules, length-mapped)) c.loop-ch-test.true)
 
-pub update-requires-clause-x2_len : goal.update-requires-clause-x2_len
-update-requires-clause-x2_len c =
+pub step_in_place-requires-clause-x2_len : goal.step_in_place-requires-clause-x2_len
+step_in_place-requires-clause-x2_len c =
     let at = c.loop-ch in
     let u = at.invariant.2 in
     let h = c.loop-ch-test.true in (
@@ -78,13 +78,7 @@ loop-ch-preserved c =
       omega (arith, h),
       few,
       updating-more s flags x y e at.self at.ch _ u h few
-          (elim c.if-block-ch.branch [
-            | then-block-ch w ↦
-                w.self-is ∙ w.update.ensures
-                ∙ rw (w.own_y2.ensures, w.own_e2.ensures)
-                (converged-channel s flags x y e at.ch _ w.if-block-ch.true held)
-            | else-block-ch w ↦ w.self-is ∙ w.decay.ensures ∙ quiet-channel s flags x y e at.ch _ w.if-block-ch.false held
-          ]),
+          (c.step_in_place.ensures ∙ rw (c.own_y2.ensures, c.own_e2.ensures) (stepped-channel s flags x y e at.ch _ held)),
     )
 
 pub returns-after-loop-ch : goal.returns-after-loop-ch

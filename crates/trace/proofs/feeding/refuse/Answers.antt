@@ -1,47 +1,40 @@
--- A line has one byte at least, so the place stays exactly where there is no room.
-use Rattle.std.proofs.Common.{refl, sym, ◌∙◌}
-use Rattle.encoding.specs.Text.{written, after}
+-- The line is written and the place is behind it, or there is no room and nothing is written.
+use Rattle.std.proofs.Common.{refl, ◌+◌, length}
+use borrow.Author.Tests.{le-leb}
+use Rattle.aec3_common.specs.Answers.{number}
+use Rattle.encoding.proofs.Writing.{wrote, full, unwritten}
 use Rattle.trace_text.specs.Text.{line}
-use Rattle.trace_text.proofs.Lines.{line-some}
 use Rattle.trace_state.specs.Listing.{refused_at}
 use Rattle.trace_state.specs.Feed.{refused_end}
-use Rattle.trace_state.proofs.Room.{room-none, room-some}
 use Rattle.trace.proofs.feeding.refuse.Goals as goal
 
-pub returns-then-next-at-clause-value : goal.returns-then-next-at-clause-value
+pub returns-in-Some-clause-value : goal.returns-in-Some-clause-value
 unfolding refused_end
-returns-then-next-at-clause-value c =
-    let a = c.args in
-    let item = refused_at a.state a.number in
-    let place = rw c.one_more.ensures at c.put_refused-next.ensures.value in
-    let none = room-none a.out.now a.at (line item) (line-some item) (sym place ∙ c.if-next-at.true) in
-    c.stopped.ensures ∙ sym (rw none)
+returns-in-Some-clause-value c =
+    let item = refused_at c.args.run.state (number c.args.refusal) in
+    let place = rw (c.one_more.ensures, c.into.ensures) at c.in-Some.ensures.value in
+    let text = rw (c.one_more.ensures, c.into.ensures) at c.in-Some.ensures.out_after in
+    let w = wrote _ _ (line item) _ _ place text in
+    rw (w.place, le-leb (c.args.run.at + length (line item)) (length c.args.out.now) w.room) refl
 
-pub returns-then-next-at-clause-out_after : goal.returns-then-next-at-clause-out_after
-unfolding refused_end written
-returns-then-next-at-clause-out_after c =
-    let a = c.args in
-    let item = refused_at a.state a.number in
-    let place = rw c.one_more.ensures at c.put_refused-next.ensures.value in
-    let text = rw c.one_more.ensures at c.put_refused-next.ensures.out_after in
-    let none = room-none a.out.now a.at (line item) (line-some item) (sym place ∙ c.if-next-at.true) in
-    text ∙ rw none
+pub returns-in-Some-clause-out_after : goal.returns-in-Some-clause-out_after
+unfolding refused_end
+returns-in-Some-clause-out_after c =
+    let item = refused_at c.args.run.state (number c.args.refusal) in
+    let place = rw (c.one_more.ensures, c.into.ensures) at c.in-Some.ensures.value in
+    let text = rw (c.one_more.ensures, c.into.ensures) at c.in-Some.ensures.out_after in
+    let w = wrote _ _ (line item) _ _ place text in
+    rw (le-leb (c.args.run.at + length (line item)) (length c.args.out.now) w.room) w.text
 
-pub returns-else-next-at-clause-value : goal.returns-else-next-at-clause-value
-unfolding refused_end after
-returns-else-next-at-clause-value c =
-    let a = c.args in
-    let item = refused_at a.state a.number in
-    let place = rw c.one_more.ensures at c.put_refused-next.ensures.value in
-    let some = room-some a.out.now a.at (line item) (λ q. c.if-next-at.false (place ∙ q)) in
-    c.stopped-else-next-at.ensures ∙ rw (place, some) refl
+pub returns-in-None-clause-value : goal.returns-in-None-clause-value
+unfolding refused_end
+returns-in-None-clause-value c =
+    let place = rw (c.one_more.ensures, c.into.ensures) at c.in-None.ensures.value in
+    rw (full _ _ _ place) refl
 
-pub returns-else-next-at-clause-out_after : goal.returns-else-next-at-clause-out_after
-unfolding refused_end written
-returns-else-next-at-clause-out_after c =
-    let a = c.args in
-    let item = refused_at a.state a.number in
-    let place = rw c.one_more.ensures at c.put_refused-next.ensures.value in
-    let text = rw c.one_more.ensures at c.put_refused-next.ensures.out_after in
-    let some = room-some a.out.now a.at (line item) (λ q. c.if-next-at.false (place ∙ q)) in
-    text ∙ rw some
+pub returns-in-None-clause-out_after : goal.returns-in-None-clause-out_after
+unfolding refused_end
+returns-in-None-clause-out_after c =
+    let place = rw (c.one_more.ensures, c.into.ensures) at c.in-None.ensures.value in
+    let text = rw (c.one_more.ensures, c.into.ensures) at c.in-None.ensures.out_after in
+    rw (full _ _ _ place) (unwritten _ _ _ _ place text)

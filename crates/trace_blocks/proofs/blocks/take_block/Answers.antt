@@ -10,27 +10,31 @@ use Rattle.trace_blocks.proofs.Taking.{lent-fits, state-after}
 use Rattle.trace_blocks.proofs.blocks.take_block.Goals as goal
 
 pub slice_bounds-advance-end-2 : goal.slice_bounds-advance-end-2
-slice_bounds-advance-end-2 c = sym (length-take-le 65 c.read_block.new.values (omega (arith, c.read_block.ensures.long)))
+slice_bounds-advance-end-2 c = sym (length-take-le 65 c.read.new.values (omega (arith, c.read.ensures.long)))
 
 pub advance-requires-clause-fits : goal.advance-requires-clause-fits
 advance-requires-clause-fits c =
-    lent-fits _ _ c.requires.ready c.flags_in-flags.ensures c.read_block.ensures
+    rw c.requires.as_many
+    (lent-fits _ _ c.requires.ready (rw c.requires.as_many at c.flags_in-flags.ensures) (rw c.requires.as_many at c.read.ensures))
 
 pub returns : goal.returns
 unfolding content_refusal block_in
-returns c = record {
-  long = c.in_ok-read_block.ensures.long;
-  told = c.in_ok-read_block.ensures.told;
-  state = state-after _ _ c.requires.ready c.flags_in-flags.ensures c.in_ok-read_block.ensures _ c.requires.in_form.0 c.advance.ensures;
-}
+returns c =
+    let read = rw c.requires.as_many at c.in_ok-read.ensures in
+    record {
+      long = read.long;
+      told = read.told;
+      state = state-after _ _ c.requires.ready (rw c.requires.as_many at c.flags_in-flags.ensures) read _ c.requires.some (rw c.requires.as_many at c.advance.ensures);
+    }
 
-pub returns-in_err-read_block : goal.returns-in_err-read_block
+pub returns-in_err-read : goal.returns-in_err-read
 unfolding content_refusal block_in
-returns-in_err-read_block c =
-    let bad = c.in_err-read_block.field-0.0 in
+returns-in_err-read c =
+    let bad = c.in_err-read.field-0.0 in
+    let read = rw c.requires.as_many at c.in_err-read.ensures in
     let same : number_of c.from_residual.result ≡ number bad = search rules in
     record {
-      long = c.in_err-read_block.ensures.long;
-      told = same ∙ c.in_err-read_block.ensures.told;
+      long = read.long;
+      told = same ∙ read.told;
       state = rw (same, ne_eqb _ _ (refused-some bad)) refl;
     }

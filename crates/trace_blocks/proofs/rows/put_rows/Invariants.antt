@@ -6,7 +6,7 @@ use Rattle.trace_blocks.proofs.rows.put_rows.Given as goal
 
 abbrev pub invariant-loop-ch : goal.invariant-loop-ch
 invariant-loop-ch l =
-    let row = row_at l.estimator l.band l.block in
-    let n = channels_of l.estimator in
-    (rows_written row n l.due l.initial.out l.initial.at ≡ rows_written row n (n - l.ch) l.out l.at)
+    let row = row_at l.t.estimator l.t.band l.t.blocks in
+    let n = channels_of l.t.estimator in
+    (rows_written row n l.t.rows_due l.initial.out l.initial.at ≡ rows_written row n (n - l.ch) l.out l.at)
     × (length l.out ≡ length l.initial.out)

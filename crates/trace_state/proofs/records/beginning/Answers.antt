@@ -1,4 +1,4 @@
--- The estimator of a refused start.
+-- The estimator of settings that no start passes.
 use Rattle.std.proofs.Common.{refl, sym, subst}
 use Rattle.trace_state.specs.Apply.{beginning}
 use Rattle.trace_state.specs.Along.{JudgedAlone}

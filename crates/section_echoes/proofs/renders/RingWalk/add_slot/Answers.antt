@@ -1,19 +1,26 @@
-use Rattle.std.proofs.Common.{◌+◌, ◌-◌, ◌*◌, List, Float, get_or, take, drop, ap, ◌∙◌, rules}
+use Rattle.std.proofs.Common.{◌≡◌, [], List, Float, get_or, ap, ◌∙◌, rules, arith}
 use Rattle.std.specs.Float.{nan, binary32}
 use Rattle.std.specs.Float.Ieee.{add, mul}
 use Rattle.aec3_common.proofs.Changes.{changed-all}
-use Rattle.section_echoes.proofs.Sums.{with_shares, lent-numbers, slot-none, slot-more}
+use Rattle.section_echoes.proofs.Sums.{with_shares, slot-none, slot-more, slot-over, slot_chunk, slot_chunks-long}
 use Rattle.section_echoes.proofs.renders.RingWalk.add_slot.Goals as goal
 
-pub loop-ch-init : goal.loop-ch-init
-loop-ch-init c = slot-none _ _ _ _ c.requires.0
+pub loop-powers-init : goal.loop-powers-init
+loop-powers-init c = slot-none _ _ _ _ (search rules)
 
-pub loop-ch-preserved : goal.loop-ch-preserved
-loop-ch-preserved c =
+pub loop-powers-preserved : goal.loop-powers-preserved
+loop-powers-preserved c =
     let spectra = c.args.self.now.spectra.now in
     let share = c.args.self.now.share in
-    let from = c.args.position + c.loop-ch.ch * 65 in
-    let powers = take (from + 65 - from) (drop from spectra) in
+    let ch = c.loop-powers.powers-index in
+    let powers = get_or c.as_chunks.result.0.now ch [] in
     changed-all nan (λ k sum. add binary32 sum (mul binary32 (get_or powers k nan) share)) c.change.ensures (search rules) (λ k x y h r. search rules)
-    ∙ ap (λ (l : List Float). with_shares l share c.loop-ch.sums) (lent-numbers spectra from)
-    ∙ slot-more spectra c.args.position share c.args.sums.now c.loop-ch.ch c.loop-ch.sums c.loop-ch.invariant
+    ∙ ap (λ (l : List Float). with_shares l share c.loop-powers.sums) (slot_chunk spectra c.args.position c.args.self.now.ring.channels c.requires c.as_chunks.ensures.front ch c.loop-powers-test.true)
+    ∙ slot-more spectra c.args.position share c.args.sums.now ch c.loop-powers.sums c.loop-powers.invariant
+
+pub returns : goal.returns
+returns c =
+    let walk = c.args.self.now in
+    let all : c.loop-powers.powers-index ≡ walk.ring.channels =
+    omega (arith, slot_chunks-long walk.spectra.now c.args.position walk.ring.channels c.requires c.as_chunks.ensures.front, c.loop-powers-test.false) in
+    slot-over walk.spectra.now c.args.position walk.share c.args.sums.now c.loop-powers.invariant all

@@ -8,15 +8,15 @@ pub returns-then-settings : goal.returns-then-settings
 returns-then-settings c =
     let long : Long c.args.self.now = search rules in
     learnt-on c.args.settings c.args.self.now long c.ratios.ensures
-    (c.move_stream.ensures ∙ simp c.limits.ensures)
+    c.move_stream.ensures
     (c.move_stream-2.ensures ∙ simp c.uncapped_limits.ensures)
-    (c.move_stream-then-settings.ensures ∙ simp c.limits-then-settings.ensures)
+    c.move_stream-then-settings.ensures
     c.stop_waiting.ensures c.hold_again.ensures c.if-settings.true
 
 pub returns-else-settings : goal.returns-else-settings
 returns-else-settings c =
     let long : Long c.args.self.now = search rules in
     learnt-off c.args.settings c.args.self.now long c.ratios.ensures
-    (c.move_stream.ensures ∙ simp c.limits.ensures)
+    c.move_stream.ensures
     (c.move_stream-2.ensures ∙ simp c.uncapped_limits.ensures)
     c.if-settings.false
