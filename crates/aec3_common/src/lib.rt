@@ -5,6 +5,7 @@ pub mod binary32;
 pub mod block;
 pub mod counts;
 pub mod entries;
+pub mod judge;
 pub mod log2;
 pub mod refusal;
 pub mod settings;

@@ -7,6 +7,7 @@ use encoding::bits_of;
 use erl_estimator::{ErlBlock, ErlEstimator};
 use filter_sections::section_boundaries;
 use spectrum_buffer::offset_index;
+use std::io::Write;
 
 // So many sections of so many blocks, without headroom.
 fn layout(num_sections: usize, filter_length_blocks: usize) -> FilterLayout {
@@ -80,9 +81,16 @@ fn sections_and_erl() -> [Told; 3] {
     ]
 }
 
-// A write that failed is passed over.
+// Room for all lines.
+const TEXT: usize = 4096;
+
+// All lines go out in one write. One that failed is passed over.
 fn main(rt: HostRuntime) {
+    let mut text = [0; TEXT];
+    let mut room = text.as_mut_slice();
     for (given, holds) in log2_and_ring().into_iter().chain(sections_and_erl()) {
-        let _ = println!(rt; "{given}: {}", if holds { "yes" } else { "no" });
+        let _ = writeln!(room, "{given}: {}", if holds { "yes" } else { "no" });
     }
+    let end = TEXT.saturating_sub(room.len());
+    let _ = rt.stdout().write_all(&text[..end]);
 }

@@ -1,9 +1,9 @@
 // The readings of a fullband estimator, and the inner state of one of its channels.
 use crate::ChannelState;
 use aec3_common::Refusal;
-use fullband_erle_estimator::{ErleInstantaneous, FullBandChannel, OptionalNumber};
-use script::{Bits, OrRefused};
-use std::fmt;
+use fullband_erle_estimator::{FullBandChannel, OptionalNumber};
+use script::{Bits, Figures, OrRefused};
+use std::fmt::{self, Display};
 
 // A number, or that there is none.
 #[derive(Clone, Copy, Debug)]
@@ -12,8 +12,8 @@ struct Shown(OptionalNumber);
 impl fmt::Display for Shown {
     fn fmt<W: fmt::Write>(&self, f: &mut fmt::Formatter<W>) -> fmt::Result {
         match self.0 {
-            OptionalNumber::Number(value) => write!(f, "{}", Bits(value)),
-            OptionalNumber::Absent => write!(f, "absent"),
+            OptionalNumber::Number(value) => Bits(value).fmt(f),
+            OptionalNumber::Absent => f.write_str("absent"),
         }
     }
 }
@@ -29,42 +29,38 @@ pub struct FullReadings<'a> {
 
 impl fmt::Display for FullReadings<'_> {
     fn fmt<W: fmt::Write>(&self, f: &mut fmt::Formatter<W>) -> fmt::Result {
-        let log2 = OrRefused(self.log2.map(Bits));
-        let db = OrRefused(self.db.map(Bits));
-        write!(f, "full {log2} {db}")?;
+        f.write_str("full ")?;
+        OrRefused(self.log2.map(Bits)).fmt(f)?;
+        f.write_str(" ")?;
+        OrRefused(self.db.map(Bits)).fmt(f)?;
         for quality in self.qualities {
-            write!(f, " {}", OrRefused(quality.map(Shown)))?;
+            f.write_str(" ")?;
+            OrRefused(quality.map(Shown)).fmt(f)?;
         }
-        writeln!(f)
+        f.write_str("\n")
     }
 }
 
-// What a channel holds: its hold, its points, its figure, and the rest.
+// What a channel holds: its hold, its points, its figure, and the rest: sums, extremes, the log2 of the ratio, and the quality before clamping.
 impl fmt::Display for ChannelState<'_, FullBandChannel> {
     fn fmt<W: fmt::Write>(&self, f: &mut fmt::Formatter<W>) -> fmt::Result {
         let c = self.index;
         let hold = self.channel.hold_counter_time_domain;
-        let figure = Bits(self.channel.erle_time_domain_log2);
         let inst = self.channel.instantaneous_erle;
         let points = inst.num_points;
-        writeln!(f, "fullstate {c} {hold} {points} {figure} {}", Inner(inst))
-    }
-}
-
-// Sums, extremes, the log2 of the ratio, and the quality before clamping.
-#[derive(Clone, Copy, Debug)]
-struct Inner(ErleInstantaneous);
-
-impl fmt::Display for Inner {
-    fn fmt<W: fmt::Write>(&self, f: &mut fmt::Formatter<W>) -> fmt::Result {
-        let inst = self.0;
-        let y2 = Bits(inst.y2_accum);
-        let e2 = Bits(inst.e2_accum);
-        let greatest = Bits(inst.max_erle_log2);
-        let least = Bits(inst.min_erle_log2);
-        let log2 = Shown(inst.erle_log2);
-        let quality = Bits(inst.inst_quality_estimate);
-        write!(f, "{y2} {e2} {greatest} {least} {log2} {quality}")
+        let figures = [
+            self.channel.erle_time_domain_log2,
+            inst.y2_accum,
+            inst.e2_accum,
+            inst.max_erle_log2,
+            inst.min_erle_log2,
+        ];
+        write!(f, "fullstate {c} {hold} {points}")?;
+        Figures(&figures).fmt(f)?;
+        f.write_str(" ")?;
+        Shown(inst.erle_log2).fmt(f)?;
+        Figures(&[inst.inst_quality_estimate]).fmt(f)?;
+        f.write_str("\n")
     }
 }
 

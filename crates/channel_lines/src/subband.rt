@@ -1,6 +1,6 @@
 // The inner state of a subband channel.
 use crate::ChannelState;
-use script::{Digits, Figures, Row};
+use script::{Digits, Figures, Numbers};
 use std::fmt;
 use subband_erle_estimator::SubbandChannel;
 
@@ -14,6 +14,6 @@ impl fmt::Display for ChannelState<'_, SubbandChannel> {
         writeln!(f, "e2sum {c}{}", Figures(&channel.e2))?;
         writeln!(f, "low {c} {}", Digits(&channel.low_render_energy))?;
         writeln!(f, "wait {c} {}", Digits(&channel.coming_onset))?;
-        writeln!(f, "hold {c}{}", Row(&channel.hold_counters))
+        writeln!(f, "hold {c}{}", Numbers(&channel.hold_counters))
     }
 }

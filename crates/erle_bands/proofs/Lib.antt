@@ -1,4 +1,5 @@
 pub mod Bands
+pub mod Begun
 pub mod Constants
 pub mod Range
 pub mod Rest

@@ -5,7 +5,7 @@ use Rattle.aec3_common.specs.Lists.{tab}
 use Rattle.aec3_common.specs.Spectra.{inner_band}
 use Rattle.filter_sections.specs.Subbands.{max_erle}
 use Rattle.aec3_common.specs.declared.settings.ErleLimits.{ErleLimits}
-use Rattle.erle_bands.specs.Band.{sum_with, low_with, new_ratio, hold_falls, stream_moved, waits_learnt, hold_learnt, hold_less, compensated_beside, waits_beside}
+use Rattle.erle_bands.specs.Band.{sum_with, low_with, ratio, new_ratio, hold_falls, stream_moved, waits_learnt, hold_learnt, hold_less, compensated_beside, waits_beside}
 
 -- each band that passes the test changed by f; the others as they were
 abbrev pub bands_where : {A : Type 0} → A → (ℕ → Bool) → List A → (ℕ → A → A) → List A
@@ -19,8 +19,11 @@ sums_with anew sums powers = tab 65 (λ k. sum_with anew (get_or sums k nan) (ge
 unfoldable pub lows_with : Bool → List Bool → List Float → List Bool
 lows_with anew lows renders = tab 65 (λ k. low_with anew (get_or lows k false) (get_or renders k nan))
 
-unfoldable pub ratios_of : List Float → List Float → List (Option Float)
-ratios_of captures residuals = tab 65 (λ k. new_ratio (get_or captures k nan) (get_or residuals k nan))
+unfoldable pub ratios_of : List Float → List Float → List Float
+ratios_of captures residuals = tab 65 (λ k. ratio (get_or captures k nan) (get_or residuals k nan))
+
+unfoldable pub new_ratios_of : List Float → List Float → List (Option Float)
+new_ratios_of captures residuals = tab 65 (λ k. new_ratio (get_or captures k nan) (get_or residuals k nan))
 
 -- ---- new ratios, in the bands that learn
 

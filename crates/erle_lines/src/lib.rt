@@ -5,7 +5,8 @@
 use aec3_common::settings::MAX_CAPTURE_CHANNELS;
 use channel_lines::{ChannelStreams, FullReadings};
 use erle_estimator::{ErleEstimator, erle_streams};
-use std::{array, fmt};
+use std::array;
+use std::fmt::{self, Display};
 
 // The figures of an estimator that stands; records that its state does not use are not shown.
 #[derive(Clone, Copy, Debug)]
@@ -25,7 +26,7 @@ impl fmt::Display for ErleFigures<'_> {
                 unbounded: &shown.unbounded,
                 onsets: &shown.onsets,
             };
-            write!(f, "{streams}")?;
+            streams.fmt(f)?;
         }
         let qualities: [_; MAX_CAPTURE_CHANNELS] = array::from_fn(|c| erle.linear_quality_estimate(
             c,
@@ -35,7 +36,7 @@ impl fmt::Display for ErleFigures<'_> {
             db: erle.fullband_erle_db(),
             qualities: &qualities[..num_channels.min(MAX_CAPTURE_CHANNELS)],
         };
-        write!(f, "{readings}")
+        readings.fmt(f)
     }
 }
 

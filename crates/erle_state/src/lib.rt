@@ -5,7 +5,7 @@
 use aec3_common::settings::MAX_SECTIONS;
 use channel_lines::ChannelState;
 use erle_estimator::ErleEstimator;
-use script::{Figures, Row};
+use script::{Figures, Numbers};
 use signal_dependent_erle_estimator::SignalDependentChannel;
 use std::fmt;
 
@@ -28,8 +28,8 @@ impl fmt::Display for SectionState<'_> {
         let c = self.index;
         let corrections = &self.channel.corrections;
         let shown = SUBBANDS * self.num_sections.min(MAX_SECTIONS);
-        writeln!(f, "updates {c}{}", Row(&corrections.num_updates))?;
-        writeln!(f, "active {c}{}", Row(&self.channel.n_active_sections))?;
+        writeln!(f, "updates {c}{}", Numbers(&corrections.num_updates))?;
+        writeln!(f, "active {c}{}", Numbers(&self.channel.n_active_sections))?;
         writeln!(f, "reference {c}{}", Figures(&corrections.erle_ref))?;
         writeln!(
             f,

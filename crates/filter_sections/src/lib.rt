@@ -5,4 +5,4 @@ pub mod sections;
 pub mod subbands;
 
 pub use sections::section_boundaries;
-pub use subbands::{band_to_subband, max_erle, subband_bands};
+pub use subbands::{SubbandBands, band_to_subband, max_erle, subband_bands};

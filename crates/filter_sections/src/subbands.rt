@@ -8,6 +8,24 @@ use std::ops::Range;
 // The bands at which the subbands begin.
 const BEGINS: [usize; 6] = [1, 8, 16, 24, 32, 48];
 
+// The bands that are summed in a subband, from begin on, below end: a value that may be copied, which a `Range` may not.
+#[derive(Clone, Copy, Debug, PartialEq, Eq)]
+pub struct SubbandBands {
+    pub begin: usize,
+    pub end: usize,
+}
+
+impl From<Range<usize>> for SubbandBands {
+    ghost from_gives = { λ bands copied. (copied.begin ≡ bands.start) × (copied.end ≡ bands.end) };
+
+    fn from(bands: Range<usize>) -> SubbandBands {
+        SubbandBands {
+            begin: bands.start,
+            end: bands.end,
+        }
+    }
+}
+
 #[tactic(auto, unfolding(crate::specs::Subbands::subband_begin))]
 fn subband_begin(subband: usize) -> usize
     ensures { result ≡ subband_begin subband }

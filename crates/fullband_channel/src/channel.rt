@@ -25,6 +25,8 @@ fn power_sums(y2: &[f32], e2: &[f32]) -> PowerSums
     ensures { result ≡ (record { y2 = sum y2.now; e2 = sum e2.now }) }
 {
     let none = PowerSums { y2: 0.0, e2: 0.0 };
+    // Cut to one length, which the two have: where they may differ, each step asks after both.
+    let e2 = &e2[..y2.len()];
     y2.iter().zip(e2).fold(
         none,
         |sums, (&y2, &e2)| PowerSums {

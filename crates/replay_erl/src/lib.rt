@@ -5,7 +5,7 @@ ghost use Rattle.replay_erl.specs.Updates.{ErlReads};
 
 use aec3_common::Refusal;
 use erl_estimator::{ErlBlock, ErlEstimator};
-use script::{Bits, Fault, Fields, Figures, FromFields, Malformed, Replayed};
+use script::{Bits, Fields, Figures, Flags, Malformed, ReadLists, Replayed, Spectra, Table};
 use std::fmt;
 
 #[derive(Clone, Copy, Debug)]
@@ -16,9 +16,9 @@ pub struct ReplayedErl(ErlEstimator);
 pub struct ErlLists {
     num_capture_channels: usize,
     num_render_channels: usize,
-    converged_filters: Vec<bool>,
-    render_spectra: Vec<f32>,
-    capture_spectra: Vec<f32>,
+    converged_filters: Flags,
+    render_spectra: Spectra,
+    capture_spectra: Spectra,
 }
 
 impl ErlLists {
@@ -34,27 +34,28 @@ impl ErlLists {
 }
 
 // Capture channels, render channels, the lengths of three lists, and the lists: flags, renders, captures.
-impl FromFields for ErlLists {
-    type Error = Fault;
-
+impl ReadLists for ErlLists {
     ghost reads = { ErlReads };
 
-    fn from_fields(fields: &mut Fields) -> Result<ErlLists, Fault> {
-        let num_capture_channels = fields.count()?;
-        let num_render_channels = fields.count()?;
+    fn none() -> ErlLists {
+        ErlLists {
+            num_capture_channels: 0,
+            num_render_channels: 0,
+            converged_filters: Table::filled_with(false),
+            render_spectra: Table::filled_with(0.0),
+            capture_spectra: Table::filled_with(0.0),
+        }
+    }
+
+    fn read_fields(&mut self, fields: &mut Fields) -> Result<(), Malformed> {
+        self.num_capture_channels = fields.count()?;
+        self.num_render_channels = fields.count()?;
         let flags = fields.word()?;
         let render_floats = fields.word()?;
         let capture_floats = fields.word()?;
-        let converged_filters = fields.flags(flags)?;
-        let render_spectra = fields.floats(render_floats)?;
-        let capture_spectra = fields.floats(capture_floats)?;
-        Ok(ErlLists {
-            num_capture_channels,
-            num_render_channels,
-            converged_filters,
-            render_spectra,
-            capture_spectra,
-        })
+        fields.flags(flags, &mut self.converged_filters)?;
+        fields.floats(render_floats, &mut self.render_spectra)?;
+        fields.floats(capture_floats, &mut self.capture_spectra)
     }
 }
 
@@ -106,9 +107,10 @@ mod tests {
     #[test]
     fn replays_a_start_and_an_update(rt: HostRuntime) -> Result<(), Fail> {
         let mut standing: Standing<ReplayedErl> = Standing::new();
+        let mut lists = ErlLists::none();
         let start = [16, 1, 100, 0, 0, 0];
         let mut text = String::new(rt.alloc());
-        standing.replay(Record::new(rt.alloc(), &start)?, &mut text)?;
+        standing.replay(Record::new(&start)?, &mut lists, &mut text)?;
         assert!(rt; text.starts_with("erl start\n"));
         let mut update = [
             17, 1, 1, 0, 0, 0, 1, 0, 0, 0, 1, 0, 0, 0, 65, 0, 0, 0, 65, 0, 0, 0,
@@ -116,7 +118,7 @@ mod tests {
         .to_vec(rt.alloc())?;
         update.resize(543, 0)?;
         text.clear();
-        standing.replay(Record::new(rt.alloc(), &update)?, &mut text)?;
+        standing.replay(Record::new(&update)?, &mut lists, &mut text)?;
         assert!(rt; text.starts_with("erl ok\n"));
         Ok(())
     }

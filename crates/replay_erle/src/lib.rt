@@ -71,19 +71,20 @@ impl fmt::Display for ReplayedErle {
 #[cfg(test)]
 mod tests {
     use super::*;
-    use script::{Record, Standing};
+    use script::{ReadLists, Record, Standing};
     use std::test::Fail;
 
     // One channel whose response has no blocks, a ring of two slots, and no power.
     #[test]
     fn replays_a_start_and_an_update(rt: HostRuntime) -> Result<(), Fail> {
         let mut standing: Standing<ReplayedErle> = Standing::new();
+        let mut lists = RingLists::none();
         let start = [
             32, 1, 0, 0, 0, 0, 0, 0, 128, 63, 0, 0, 128, 64, 0, 0, 192, 63, 1, 0, 0, 0, 1, 0, 0, 0,
             1, 0, 0, 0, 1, 0, 0, 0, 0, 0, 0, 0, 0, 0, 0, 0, 0, 0, 0, 0,
         ];
         let mut text = String::new(rt.alloc());
-        standing.replay(Record::new(rt.alloc(), &start)?, &mut text)?;
+        standing.replay(Record::new(&start)?, &mut lists, &mut text)?;
         assert!(rt; text.starts_with("erle start\n"));
         let mut update = [
             33, 1, 1, 0, 0, 0, 2, 0, 0, 0, 1, 0, 0, 0, 0, 0, 0, 0, 1, 0, 0, 0, 65, 0, 0, 0, 65, 0,
@@ -92,7 +93,7 @@ mod tests {
         .to_vec(rt.alloc())?;
         update.resize(1343, 0)?;
         text.clear();
-        standing.replay(Record::new(rt.alloc(), &update)?, &mut text)?;
+        standing.replay(Record::new(&update)?, &mut lists, &mut text)?;
         assert!(rt; text.starts_with("erle ok\n"));
         Ok(())
     }

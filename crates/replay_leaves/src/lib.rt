@@ -116,7 +116,7 @@ mod tests {
         ];
         for (bytes, want) in cases {
             let mut text = String::new(rt.alloc());
-            let line = replay_leaf(Record::new(rt.alloc(), bytes)?)?;
+            let line = replay_leaf(Record::new(bytes)?)?;
             write!(text, "{line}")?;
             assert_eq!(rt; text.as_str(), want);
         }

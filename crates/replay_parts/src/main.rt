@@ -5,22 +5,22 @@
 
 use replay_fullband::ReplayedFullband;
 use replay_subband::ReplayedSubband;
-use script::{Fault, Record, Standing, replay_script};
-use std::alloc::AllocError;
+use script::{Malformed, ReadLists, Record, Standing, Text, replay_script};
+use update_bodies::BlockLists;
 
-// One estimator of each sort stands from one record to the next. Each sort is asked for at this one place, so its number has no
+// One estimator of each sort stands from one record to the next, and the updates of both are read into the same lists. Each sort is asked for at this one place, so its number has no
 // other name.
-fn main(rt: HostRuntime) -> Result<(), AllocError> {
+fn main(rt: HostRuntime) {
     let mut subband: Standing<ReplayedSubband> = Standing::new();
     let mut fullband: Standing<ReplayedFullband> = Standing::new();
+    let mut lists = BlockLists::none();
     replay_script(
-        rt.alloc(),
         &mut rt.stdin(),
         &mut rt.stdout(),
-        |record: Record, text: &mut String| match record.sort() {
-            0x013 => subband.replay(record, text),
-            0x015 => fullband.replay(record, text),
-            _ => Err(Fault::Malformed),
+        |record: Record, text: &mut Text| match record.sort() {
+            0x013 => subband.replay(record, &mut lists, text),
+            0x015 => fullband.replay(record, &mut lists, text),
+            _ => Err(Malformed),
         },
-    )
+    );
 }

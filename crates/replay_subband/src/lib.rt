@@ -69,18 +69,19 @@ impl fmt::Display for ReplayedSubband {
 #[cfg(test)]
 mod tests {
     use super::*;
-    use script::{Record, Standing};
+    use script::{ReadLists, Record, Standing};
     use std::test::Fail;
 
     // One channel, without a converged filter and without power.
     #[test]
     fn replays_a_start_and_an_update(rt: HostRuntime) -> Result<(), Fail> {
         let mut standing: Standing<ReplayedSubband> = Standing::new();
+        let mut lists = BlockLists::none();
         let start = [
             48, 1, 0, 0, 128, 63, 0, 0, 128, 64, 0, 0, 192, 63, 1, 0, 0, 0, 1, 0, 0, 0,
         ];
         let mut text = String::new(rt.alloc());
-        standing.replay(Record::new(rt.alloc(), &start)?, &mut text)?;
+        standing.replay(Record::new(&start)?, &mut lists, &mut text)?;
         assert!(rt; text.starts_with("subband start\n"));
         let mut update = [
             49, 1, 1, 0, 0, 0, 1, 0, 0, 0, 65, 0, 0, 0, 65, 0, 0, 0, 65, 0, 0, 0,
@@ -88,7 +89,7 @@ mod tests {
         .to_vec(rt.alloc())?;
         update.resize(803, 0)?;
         text.clear();
-        standing.replay(Record::new(rt.alloc(), &update)?, &mut text)?;
+        standing.replay(Record::new(&update)?, &mut lists, &mut text)?;
         assert!(rt; text.starts_with("subband ok\n"));
         Ok(())
     }

@@ -1,45 +1,39 @@
--- What a slice gives in chunks of four bytes, each read as a number.
-use Rattle.std.proofs.Common.{◌≡◌, ◌∙◌, sym, ap, subst, ℕ, zero, suc, ◌+◌, ◌*◌, ◌<◌, ◌≤◌, ◌/◌, List, [], ◌∷◌, ◌++◌, length, drop, Some, None, refl, arith, length-append}
-use Rattle.std.specs.Iterator.{AlwaysYields}
-use Rattle.std.specs.Slice.Iter.{chunks_exact_steps, chunks_exact_rest, chunks_exact_size}
-use Rattle.std.specs.declared.slice.ChunksExact.{ChunksExact}
-use Rattle.std.proofs.lemmas.Iterator.{YieldsList}
+-- The numbers of a list of bytes, four bytes each, by their places.
+use Rattle.std.proofs.Common.{◌≡◌, ◌∙◌, sym, ap, ℕ, zero, suc, ◌+◌, ◌*◌, ◌/◌, List, [], ◌∷◌, length, take, drop, map, min, refl, arith}
+use Rattle.std.proofs.lemmas.List.{drop-drop}
+use Rattle.aec3_common.specs.Lists.{tab}
 use Rattle.encoding.specs.Bytes.{half_at, word_at}
-use Rattle.script.specs.Lists.{first_words, words_in}
+use Rattle.script.specs.Lists.{past, nth_word, first_words, words_in}
 
--- a chunk's number is the first of the bytes that it begins
-word_of_chunk : (x r : List ℕ) → length x ≡ 4 → word_at x 0 ≡ word_at (x ++ r) 0
+-- a number is made of four bytes
+pub word_of_four : (s : List ℕ) → word_at (take 4 s) 0 ≡ word_at s 0
 unfolding half_at word_at
-word_of_chunk [] r e = omega (arith, e)
-word_of_chunk (a ∷ []) r e = omega (arith, e)
-word_of_chunk (a ∷ b ∷ []) r e = omega (arith, e)
-word_of_chunk (a ∷ b ∷ c ∷ []) r e = omega (arith, e)
-word_of_chunk (a ∷ b ∷ c ∷ d ∷ []) r e = refl
-word_of_chunk (a ∷ b ∷ c ∷ d ∷ f ∷ x) r e = omega (arith, e)
+word_of_four [] = refl
+word_of_four (a ∷ []) = refl
+word_of_four (a ∷ b ∷ []) = refl
+word_of_four (a ∷ b ∷ c ∷ []) = refl
+word_of_four (a ∷ b ∷ c ∷ d ∷ s) = refl
 
--- and behind it the bytes go on
-rest_of_chunk : (x r : List ℕ) → length x ≡ 4 → r ≡ drop 4 (x ++ r)
-rest_of_chunk [] r e = absurd (omega (arith, e))
-rest_of_chunk (a ∷ []) r e = absurd (omega (arith, e))
-rest_of_chunk (a ∷ b ∷ []) r e = absurd (omega (arith, e))
-rest_of_chunk (a ∷ b ∷ c ∷ []) r e = absurd (omega (arith, e))
-rest_of_chunk (a ∷ b ∷ c ∷ d ∷ []) r e = refl
-rest_of_chunk (a ∷ b ∷ c ∷ d ∷ f ∷ x) r e = absurd (omega (arith, e))
+pub past-drop : (k : ℕ) (s : List ℕ) → drop (4 * k) s ≡ past k s
+past-drop zero s = refl
+past-drop (suc k) s =
+    let further : 4 * suc k ≡ 4 + 4 * k = omega arith in
+    ap (λ n. drop n s) further ∙ sym (drop-drop (4 * k) 4 s) ∙ past-drop k (drop 4 s)
 
-longer : (x r s : List ℕ) → s ≡ x ++ r → length x ≡ 4 → length s ≡ 4 + length r
-longer x r s e l = rw e (length-append x r ∙ ap (λ n. n + length r) l)
+-- the first numbers, as far as a table takes them
+firsts :
+    {T : Type 0} (value : ℕ → T) (n m : ℕ) (s : List ℕ) (j : ℕ)
+    → j ≡ min m n → tab j (λ k. value (nth_word k s)) ≡ take n (map value (first_words m s))
+unfolding tab
+firsts value zero m s zero e = refl
+firsts value zero m s (suc j) e = absurd (omega (arith, e))
+firsts value (suc n) zero s zero e = refl
+firsts value (suc n) zero s (suc j) e = absurd (omega (arith, e))
+firsts value (suc n) (suc m) s zero e = absurd (omega (arith, e))
+firsts value (suc n) (suc m) s (suc j) e = ap (λ l. value (word_at s 0) ∷ l) (firsts value n m (drop 4 s) j (omega (arith, e)))
 
--- from a slice with n whole chunks, the first n numbers
-chunks : (n : ℕ) (s : ChunksExact ℕ) → chunks_exact_size s ≡ 4 → length (chunks_exact_rest s) / 4 ≡ n → AlwaysYields chunks_exact_steps (λ x. word_at x.now 0) s (first_words n (chunks_exact_rest s))
-chunks zero s four e = λ x t p. let l = longer x.now (chunks_exact_rest t) (chunks_exact_rest s) p.1.0 (p.1.1 ∙ four) in omega (arith, e, l)
-chunks (suc n) s four e = (
-  (λ t p. omega (arith, e, p.1.0, four)),
-  λ x t p. let l = p.1.1 ∙ four in let m = longer x.now (chunks_exact_rest t) (chunks_exact_rest s) p.1.0 l in (
-    word_of_chunk x.now (chunks_exact_rest t) l ∙ ap (λ s. word_at s 0) (sym p.1.0),
-    subst (λ r. AlwaysYields chunks_exact_steps (λ x. word_at x.now 0) t (first_words n r)) (rest_of_chunk x.now (chunks_exact_rest t) l ∙ ap (drop 4) (sym p.1.0)) (chunks n t (p.0 ∙ four) (omega (arith, e, m))),
-  ),
-)
-
-pub YieldsList-from_chunks : {s : ChunksExact ℕ} (xs : List ℕ) → chunks_exact_size s ≡ 4 → chunks_exact_rest s ≡ xs → YieldsList chunks_exact_steps (λ x. word_at x.now 0) s (words_in xs)
+pub words_by_place :
+    {T : Type 0} (value : ℕ → T) (n : ℕ) (s : List ℕ)
+    → tab (min (length s / 4) n) (λ k. value (nth_word k s)) ≡ take n (map value (words_in s))
 unfolding words_in
-YieldsList-from_chunks {s} xs four e = record { runs = subst (λ r. AlwaysYields chunks_exact_steps (λ x. word_at x.now 0) s (first_words (length r / 4) r)) e (chunks (length (chunks_exact_rest s) / 4) s four refl) }
+words_by_place value n s = firsts value n (length s / 4) s (min (length s / 4) n) refl

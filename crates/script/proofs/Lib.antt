@@ -1,2 +1,2 @@
 pub mod Chunks
-pub mod Flags
+pub mod Tables

@@ -1,5 +1,5 @@
 -- What a record asks of an estimator, and when an estimator that stands stays as it is.
-use Rattle.std.specs.Prelude.{ℕ, ◌≡◌, ◌%◌, ◌<◌, ◌≤◌, Result, MatchResult, OnErr}
+use Rattle.std.specs.Prelude.{ℕ, ◌≡◌, ◌%◌, ◌≤◌, Result, MatchResult, OnErr}
 use Rattle.script.specs.declared.call.Call.{Call}
 use Rattle.script.specs.declared.call.Call.TheVariants.{Start, Update, Reset, Repeat}
 use Rattle.script.specs.declared.fault.Malformed.{Malformed}

@@ -1,27 +1,26 @@
 // The fields of a record, read one after the other. A field that the record is too short for makes it malformed, and so does
 // what is left behind the last one.
-ghost use Rattle.std.specs.Prelude.{◌≡◌, ◌<◌, ◌≤◌, ◌↔◌, ◌*◌, ◌/◌, ◌%◌, ℕ, [], length, drop, take, map, vec_len, vec_items, eqb, false, IsTrue, IsOk, IsErr, IfOk, OnOk, OnErr, MatchResult};
+ghost use Rattle.std.specs.Prelude.{◌≡◌, ◌<◌, ◌≤◌, ◌↔◌, ◌*◌, ◌/◌, ◌%◌, ℕ, [], length, drop, take, map, min, IsTrue, IsOk, IsErr, IfOk, OnOk, OnErr};
 ghost use Rattle.std.specs.Float.{binary32};
 ghost use Rattle.std.specs.Float.Ieee.{of_bits};
-ghost use Rattle.encoding.specs.Bytes.{half_at, word_at};
+ghost use Rattle.encoding.specs.Bytes.{byte_at, half_at, word_at};
 ghost use Rattle.script.specs.Lists.{words_in, flags_in, floats_in, Computes};
 
-use crate::fault::{Fault, Malformed};
+use crate::fault::Malformed;
+use crate::table::Table;
 use encoding::{float_of, half_at, word_at};
-use std::alloc::{AllocError, Global};
 
-// What is left of a record, and the memory that its lists are read into.
+// What is left of a record.
 #[derive(Clone, Copy, Debug)]
 pub struct Fields<'a> {
     pub rest: &'a [u8],
-    alloc: Global,
 }
 
 impl<'a> Fields<'a> {
-    pub fn new(alloc: Global, bytes: &'a [u8]) -> Fields<'a>
+    pub fn new(bytes: &'a [u8]) -> Fields<'a>
         ensures { result.rest.now ≡ bytes.now }
     {
-        Fields { rest: bytes, alloc }
+        Fields { rest: bytes }
     }
 
     // The next bytes, so many.
@@ -82,51 +81,72 @@ impl<'a> Fields<'a> {
         flag_of(self.word()?)
     }
 
-    // A list of flags, of one byte each.
-    pub fn flags(&mut self, count: u32) -> Result<Vec<bool>, Fault>
+    // A list of flags, of one byte each. Each is looked at, also where the table has no room for it.
+    pub fn flags<const N: usize>(
+        &mut self,
+        count: u32,
+        flags: &mut Table<bool, N>,
+    ) -> Result<(), Malformed>
         ensures short { IsOk result → count ≤ length self.old.rest.now }
-        ensures length { IfOk result (λ flags. vec_len flags ≡ count) }
+        ensures length { OnOk result (length flags.new ≡ min count N) }
         ensures rest { OnOk result (self.new.rest.now ≡ drop count self.old.rest.now) }
-        ensures values { IfOk result (λ flags. vec_items flags ≡ flags_in (take count self.old.rest.now)) }
+        ensures values { OnOk result (flags.new ≡ take N (flags_in (take count self.old.rest.now))) }
+        ensures flags_alone { IsOk result → (k : ℕ) → k < count → byte_at self.old.rest.now k < 2 }
     {
-        self.bytes(count as usize)?
-            .iter()
-            .map(flag_at)
-            .try_collect(self.alloc)
+        let bytes = self.bytes(count as usize)?;
+        for &byte in bytes {
+            flag_of(u32::from(byte))?;
+        }
+        flags.fill(bytes.len(), |k| bytes[k] == 1);
+        Ok(())
     }
 
-    pub fn floats(&mut self, count: u32) -> Result<Vec<f32>, Fault>
+    pub fn floats<const N: usize>(
+        &mut self,
+        count: u32,
+        floats: &mut Table<f32, N>,
+    ) -> Result<(), Malformed>
         ensures short { IsOk result → 4 * count ≤ length self.old.rest.now }
-        ensures length { IfOk result (λ floats. vec_len floats ≡ count) }
+        ensures length { OnOk result (length floats.new ≡ min count N) }
         ensures rest { OnOk result (self.new.rest.now ≡ drop (4 * count) self.old.rest.now) }
-        ensures values { IfOk result (λ floats. vec_items floats ≡ floats_in (take (4 * count) self.old.rest.now)) }
+        ensures values { OnOk result (floats.new ≡ take N (floats_in (take (4 * count) self.old.rest.now))) }
     {
         let figures = self.bytes(4 * count as usize)?;
-        Ok(words(self.alloc, figures, float_of)?)
+        words(figures, floats, float_of);
+        Ok(())
     }
 
-    pub fn counts(&mut self, count: u32) -> Result<Vec<usize>, Fault>
+    pub fn counts<const N: usize>(
+        &mut self,
+        count: u32,
+        counts: &mut Table<usize, N>,
+    ) -> Result<(), Malformed>
         ensures short { IsOk result → 4 * count ≤ length self.old.rest.now }
-        ensures length { IfOk result (λ counts. vec_len counts ≡ count) }
+        ensures length { OnOk result (length counts.new ≡ min count N) }
         ensures rest { OnOk result (self.new.rest.now ≡ drop (4 * count) self.old.rest.now) }
-        ensures values { IfOk result (λ counts. vec_items counts ≡ words_in (take (4 * count) self.old.rest.now)) }
+        ensures values { OnOk result (counts.new ≡ take N (words_in (take (4 * count) self.old.rest.now))) }
     {
         let bytes = self.bytes(4 * count as usize)?;
-        Ok(words(self.alloc, bytes, |word| word as usize)?)
+        words(bytes, counts, |word| word as usize);
+        Ok(())
     }
 
     // As many floats as the record has left.
-    pub fn floats_left(&mut self) -> Result<Vec<f32>, Fault>
+    pub fn floats_left<const N: usize>(
+        &mut self,
+        floats: &mut Table<f32, N>,
+    ) -> Result<(), Malformed>
         ensures whole { IsOk result → length self.old.rest.now % 4 ≡ 0 }
-        ensures length { IfOk result (λ floats. vec_len floats ≡ length self.old.rest.now / 4) }
+        ensures length { OnOk result (length floats.new ≡ min (length self.old.rest.now / 4) N) }
         ensures rest { OnOk result (self.new.rest.now ≡ []) }
-        ensures values { IfOk result (λ floats. vec_items floats ≡ floats_in self.old.rest.now) }
+        ensures values { OnOk result (floats.new ≡ take N (floats_in self.old.rest.now)) }
     {
         if self.rest.len() % 4 != 0 {
-            return Err(Fault::Malformed);
+            return Err(Malformed);
         }
         let left = self.bytes(self.rest.len())?;
-        Ok(words(self.alloc, left, float_of)?)
+        words(left, floats, float_of);
+        Ok(())
     }
 
     // Whether nothing is left.
@@ -152,27 +172,16 @@ fn flag_of(number: u32) -> Result<bool, Malformed>
     }
 }
 
-// A flag of one byte. Where memory is asked for besides, a malformed one is a fault.
-fn flag_at(byte: &u8) -> Result<bool, Fault>
-    ensures { MatchResult result (λ flag. flag ≡ eqb byte.now 1) (λ _. eqb byte.now 1 ≡ false) }
-{
-    Ok(flag_of(u32::from(*byte))?)
-}
-
-// What each four bytes in a row give.
-fn words<T: Drop, F: Fn(u32) -> T>(
-    alloc: Global,
-    bytes: &[u8],
-    element: F,
-) -> Result<Vec<T>, AllocError>
+// What each four bytes in a row give, as far as the table takes it.
+fn words<T: Copy, F: Fn(u32) -> T, const N: usize>(bytes: &[u8], list: &mut Table<T, N>, element: F)
     requires { F.IsAlwaysCallable element }
-    ensures length { IfOk result (λ elements. vec_len elements ≡ length bytes.now / 4) }
-    ensures values { (value : ℕ → T) → Computes (F.post element) value → IfOk result (λ elements. vec_items elements ≡ map value (words_in bytes.now)) }
+    ensures length { length list.new ≡ min (length bytes.now / 4) N }
+    ensures values { (value : ℕ → T) → Computes (F.post element) value → list.new ≡ take N (map value (words_in bytes.now)) }
 {
-    bytes
-        .chunks_exact(4)
-        .map(|word| element(word_at(word, 0)))
-        .collect(alloc)
+    list.fill(
+        bytes.len() / 4,
+        |k| element(word_at(&bytes[4 * k..4 * k + 4], 0)),
+    );
 }
 
 #[cfg(test)]
@@ -183,11 +192,18 @@ mod tests {
     #[test]
     fn reads_lists_of_each_sort(rt: HostRuntime) -> Result<(), Fail> {
         let bytes = [1, 0, 0, 0, 0x80, 0x3f, 2, 0, 0, 0, 0, 0, 0, 0xc0];
-        let mut fields = Fields::new(rt.alloc(), &bytes);
-        assert_eq!(rt; fields.flags(2)?.as_slice(), [true, false].as_slice());
-        assert_eq!(rt; fields.floats(1)?.as_slice(), [1.0].as_slice());
-        assert_eq!(rt; fields.counts(1)?.as_slice(), [2].as_slice());
-        assert_eq!(rt; fields.floats_left()?.as_slice(), [-2.0].as_slice());
+        let mut fields = Fields::new(&bytes);
+        let mut flags: Table<bool, 3> = Table::filled_with(false);
+        let mut floats: Table<f32, 1> = Table::filled_with(0.0);
+        let mut counts: Table<usize, 1> = Table::filled_with(0);
+        fields.flags(2, &mut flags)?;
+        assert_eq!(rt; flags.as_slice(), [true, false].as_slice());
+        fields.floats(1, &mut floats)?;
+        assert_eq!(rt; floats.as_slice(), [1.0].as_slice());
+        fields.counts(1, &mut counts)?;
+        assert_eq!(rt; counts.as_slice(), [2].as_slice());
+        fields.floats_left(&mut floats)?;
+        assert_eq!(rt; floats.as_slice(), [-2.0].as_slice());
         assert_eq!(rt; fields.end(), Ok(()));
         Ok(())
     }

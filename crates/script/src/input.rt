@@ -21,12 +21,15 @@ pub fn read_full<R: Read>(reader: &mut R, buffer: &mut [u8]) -> usize
     done
 }
 
-// Reads the next record over a buffer, or finds none at the end of the input. One that is longer than the buffer is malformed.
+// Reads the next record over a buffer, or finds none at the end of the input. One with a length that is less than the shortest, or
+// that is longer than the buffer, is malformed, and no more is read of it.
 pub fn next_record<'a, R: Read>(
     reader: &mut R,
+    shortest: usize,
     buffer: &'a mut [u8],
 ) -> Result<Option<&'a [u8]>, Malformed>
-    ensures { IfOk result (λ found. IfSome found (λ bytes. length bytes.now ≤ length buffer.old)) }
+    ensures long_enough { IfOk result (λ found. IfSome found (λ bytes. shortest ≤ length bytes.now)) }
+    ensures fits { IfOk result (λ found. IfSome found (λ bytes. length bytes.now ≤ length buffer.old)) }
 {
     let mut head = [0u8; 4];
     let got = read_full(reader, &mut head);
@@ -34,7 +37,7 @@ pub fn next_record<'a, R: Read>(
         return Ok(None);
     }
     let length = word_at(&head, 0) as usize;
-    if got < 4 || buffer.len() < length {
+    if got < 4 || length < shortest || buffer.len() < length {
         return Err(Malformed);
     }
     let record = &mut buffer[..length];

@@ -4,7 +4,6 @@ ghost use Rattle.encoding.specs.Bytes.{half_at};
 
 use crate::fault::Malformed;
 use crate::fields::Fields;
-use std::alloc::Global;
 
 #[derive(Clone, Copy, Debug)]
 pub struct Record<'a> {
@@ -14,12 +13,12 @@ pub struct Record<'a> {
 
 impl<'a> Record<'a> {
     // Malformed where there is no whole kind.
-    pub fn new(alloc: Global, bytes: &'a [u8]) -> Result<Record<'a>, Malformed>
+    pub fn new(bytes: &'a [u8]) -> Result<Record<'a>, Malformed>
         ensures short { IsErr result ↔ (length bytes.now < 2) }
         ensures kind { IfOk result (λ r. r.kind ≡ half_at bytes.now 0) }
         ensures fields { IfOk result (λ r. r.fields.rest.now ≡ drop 2 bytes.now) }
     {
-        let mut fields = Fields::new(alloc, bytes);
+        let mut fields = Fields::new(bytes);
         let kind = fields.half()?;
         Ok(Record { kind, fields })
     }

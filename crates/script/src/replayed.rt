@@ -1,11 +1,11 @@
 // The calls to one estimator: what each sort of estimator says of itself, and how any of them is replayed.
-ghost use Rattle.std.specs.Prelude.{◌≡◌, IsErrOf};
+ghost use Rattle.std.specs.Prelude.{◌≡◌};
 ghost use Rattle.script.specs.Calls.{UnchangedOnErr};
 
 use crate::call::{Call, Reply};
-use crate::fault::{Fault, Malformed};
+use crate::fault::Malformed;
 use crate::fields::Fields;
-use crate::from_fields::FromFields;
+use crate::from_fields::{FromFields, ReadLists};
 use crate::record::Record;
 use aec3_common::Refusal;
 use std::fmt;
@@ -19,9 +19,9 @@ pub trait Replayed: Copy + fmt::Display {
     // What a start, an update and a reset are told.
     type Settings: Copy;
 
-    type Update: FromFields<Error = Fault> + Drop;
+    type Update: ReadLists + Drop;
 
-    type Change: FromFields<Error = Malformed> + Copy;
+    type Change: FromFields + Copy;
 
     // The word that begins the line of a call.
     const NAME: &'static str;
@@ -71,32 +71,40 @@ impl<T: Replayed> Standing<T> {
     }
 
     // The same update so many times, each on the state that the last one left, and the answer of the last.
-    fn update(&mut self, times: u32, mut fields: Fields) -> Result<Reply, Fault>
+    fn update(
+        &mut self,
+        times: u32,
+        mut fields: Fields,
+        lists: &mut T::Update,
+    ) -> Result<Reply, Malformed>
         ensures err { UnchangedOnErr result self.old self.new }
     {
-        let update = T::Update::from_fields(&mut fields)?;
+        lists.read_fields(&mut fields)?;
         fields.end()?;
-        let Some(state) = &mut self.estimator else {
+        // In a variable of its own while it is repeated: changed where it stands, each turn copied it twice more.
+        let Some(mut state) = self.estimator else {
             return Ok(Reply::NoneStands);
         };
+        let update: &T::Update = lists;
         let mut outcome = Ok(());
         for _ in 0..times {
-            outcome = state.update(&update);
+            outcome = state.update(update);
         }
+        self.estimator = Some(state);
         match outcome {
             Ok(()) => Ok(Reply::Updated),
             Err(refusal) => Ok(Reply::Refused(refusal)),
         }
     }
 
-    fn repeat(&mut self, mut fields: Fields) -> Result<Reply, Fault>
+    fn repeat(&mut self, mut fields: Fields, lists: &mut T::Update) -> Result<Reply, Malformed>
         ensures err { UnchangedOnErr result self.old self.new }
     {
         let times = fields.word()?;
         if !T::REPEATS || times == 0 || MOST_TIMES < times {
-            return Err(Fault::Malformed);
+            return Err(Malformed);
         }
-        self.update(times, fields)
+        self.update(times, fields, lists)
     }
 
     fn reset(&mut self, mut fields: Fields) -> Result<Reply, Malformed>
@@ -113,20 +121,26 @@ impl<T: Replayed> Standing<T> {
         }
     }
 
-    // Replays a record: the line of its call, and the figures of the estimator that stands after it.
-    pub fn replay(&mut self, record: Record, text: &mut String) -> Result<(), Fault>
-        ensures malformed { IsErrOf result Fault.Malformed → self.new ≡ self.old }
+    // Replays a record: the line of its call, and the figures of the estimator that stands after it. What finds no room in the text is
+    // not written. The lists of an update are read over those that are lent, since to make new ones for each record would take long.
+    pub fn replay<W: fmt::Write>(
+        &mut self,
+        record: Record,
+        lists: &mut T::Update,
+        text: &mut W,
+    ) -> Result<(), Malformed>
+        ensures malformed { UnchangedOnErr result self.old self.new }
     {
         let fields = record.fields;
         let reply = match Call::try_from(record.kind)? {
             Call::Start => self.start(fields)?,
-            Call::Update => self.update(1, fields)?,
+            Call::Update => self.update(1, fields, lists)?,
             Call::Reset => self.reset(fields)?,
-            Call::Repeat => self.repeat(fields)?,
+            Call::Repeat => self.repeat(fields, lists)?,
         };
-        writeln!(text, "{} {reply}", T::NAME)?;
+        let _ = writeln!(text, "{} {reply}", T::NAME);
         if let Some(state) = &self.estimator {
-            write!(text, "{state}")?;
+            let _ = write!(text, "{state}");
         }
         Ok(())
     }

@@ -6,15 +6,16 @@ ghost use Rattle.aec3_common.specs.Refusal.{unless, bad_length};
 ghost use Rattle.std.specs.List.{list_all};
 ghost use Rattle.section_echoes.specs.Packed.{total};
 ghost use Rattle.section_echoes.specs.Walk.{slot_length};
+ghost use Rattle.signal_dependent_erle_estimator.specs.Steps.{form_refusal};
 ghost use Rattle.signal_dependent_erle_estimator.specs.SignalDependent.{update_of, slots_reach, ring_refusal, responses_ok, lent_lengths_ok, lent_values, refusal_beside, refusal_of};
 
 use crate::settings::SignalDependentSettings;
 use crate::{Averages, Inputs};
-use aec3_common::Refusal;
 use aec3_common::block::judge_values;
 use aec3_common::refusal::lesser;
 use aec3_common::settings::{headroom_blocks, render_channels_ok};
 use aec3_common::spectra::are_spectra;
+use aec3_common::{Refusal, judge as numbers};
 use section_echoes::{FilterResponses, RenderBuffer, RenderRing};
 use spectrum_buffer::slots_ok;
 
@@ -131,15 +132,9 @@ impl Inputs<'_> {
         lesser(powers, judge_values(self.responses.responses))
     }
 
-    // The first of 20, 21, 2, 4, 9, 5 and 6, where it is known whether number 20 lets the state pass; and what 5 and 6 say of what the caller is
-    // lent besides.
-    pub fn judge_beside(
-        &self,
-        state_ok: bool,
-        settings: SignalDependentSettings,
-        others: Result<(), Refusal>,
-    ) -> Result<(), Refusal>
-        ensures { number_of result ≡ refusal_beside state_ok settings (update_of self.now) true (number_of others) }
+    // The first of 20, 21, 2, 4, 9 and 5, where it is known whether number 20 lets the state pass.
+    fn judge_form(&self, state_ok: bool, settings: SignalDependentSettings) -> Result<(), Refusal>
+        ensures { number_of result ≡ form_refusal state_ok settings (update_of self.now) }
     {
         if !state_ok {
             return Err(Refusal::BadState);
@@ -154,7 +149,43 @@ impl Inputs<'_> {
         if !self.lengths_ok(settings.layout.filter_length_blocks) {
             return Err(Refusal::BadLength);
         }
+        Ok(())
+    }
+
+    // The first of 20, 21, 2, 4, 9, 5 and 6; and what 5 and 6 say of what the caller is lent besides.
+    pub fn judge_beside(
+        &self,
+        state_ok: bool,
+        settings: SignalDependentSettings,
+        others: Result<(), Refusal>,
+    ) -> Result<(), Refusal>
+        ensures { number_of result ≡ refusal_beside state_ok settings (update_of self.now) true (number_of others) }
+    {
+        self.judge_form(state_ok, settings)?;
         lesser(self.judge_values(), others)
+    }
+
+    // The same as a number, for a caller that tells whether 5 lets pass what it is lent besides, and under which number, if any, the values
+    // of that are turned away.
+    pub fn refusal_beside(
+        &self,
+        state_ok: bool,
+        settings: SignalDependentSettings,
+        others_lengths_ok: bool,
+        others_refused: u32,
+    ) -> u32
+        ensures { result ≡ refusal_beside state_ok settings (update_of self.now) others_lengths_ok others_refused }
+    {
+        if let Err(refusal) = self.judge_form(state_ok, settings) {
+            return refusal.into();
+        }
+        if !others_lengths_ok {
+            return Refusal::BadLength.into();
+        }
+        match self.judge_values() {
+            Ok(()) => others_refused,
+            Err(refusal) => numbers::lesser(refusal.into(), others_refused),
+        }
     }
 
     // The first of 20, 21, 2, 4, 9, 5 and 6, with two streams, where it is known whether number 20 lets the state pass.

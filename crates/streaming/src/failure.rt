@@ -25,9 +25,18 @@ impl fmt::Display for Failure {
 
 impl Error for Failure {}
 
-// One line: which program, and what failed. That this line cannot be written can be told nowhere.
+// The longest line has so many bytes behind the program's name, or fewer.
+const LINE: usize = 64;
+
+// One line: which program, and what failed, in one piece each, so that no other line comes between the words. That this line cannot be written
+// can be told nowhere.
 pub fn tell<W: Write>(writer: &mut W, program: &[u8], failure: Failure) {
-    if writer.write_all(program).is_ok() {
-        let _ = writeln!(writer, ": {failure}");
+    if writer.write_all(program).is_err() {
+        return;
     }
+    let mut line = [0; LINE];
+    let mut room = line.as_mut_slice();
+    let _ = writeln!(room, ": {failure}");
+    let end = LINE.saturating_sub(room.len());
+    let _ = writer.write_all(&line[..end]);
 }

@@ -9,7 +9,6 @@ use lib.Ieee.{Float, nan}
 use lib.ListN.{length, get_or}
 use Rattle.std.specs.Prelude.{Option, None, Some, if◌then◌else◌, is_some, unwrap_or}
 use Rattle.aec3_common.specs.declared.settings.ErleLimits.{ErleLimits}
-use Rattle.aec3_common.specs.Binary32.{zero32}
 use Rattle.aec3_common.specs.Lists.{tab}
 use Rattle.aec3_common.specs.Settings.{greatest_erle}
 use Rattle.aec3_common.specs.Spectra.{inner_band, shown_band, ends_copied}
@@ -17,9 +16,10 @@ use Rattle.aec3_common.proofs.Bands.{ends-are, shown-below}
 use Rattle.aec3_common.proofs.Choices.{and-true, and-false}
 use Rattle.aec3_common.proofs.Tables.{length-tab, get_or-tab, tab-same}
 use Rattle.filter_sections.specs.Subbands.{max_erle}
-use Rattle.erle_bands.specs.Band.{Sums, sum_with, low_with, added, has_ratio, ratio, new_ratio, learns, hold_falls, stream_moved, Streams, streams_learnt, Onset, onset_learnt, hold_less, compensated_beside, waits_beside, waits_learnt, hold_learnt, one_block_less}
-use Rattle.erle_bands.specs.Steps.{sums_with, lows_with, ratios_of, all_streams_moved, all_waits_learnt, all_holds_learnt, all_holds_less, all_compensated_beside, all_waits_beside}
+use Rattle.erle_bands.specs.Band.{Sums, added, has_ratio, ratio, new_ratio, learns, hold_falls, stream_moved, Streams, streams_learnt, Onset, onset_learnt, hold_less, compensated_beside, waits_beside, waits_learnt, hold_learnt, one_block_less}
+use Rattle.erle_bands.specs.Steps.{sums_with, lows_with, new_ratios_of, all_streams_moved, all_waits_learnt, all_holds_learnt, all_holds_less, all_compensated_beside, all_waits_beside}
 use Rattle.erle_bands.proofs.Bands.{bands-stay}
+use Rattle.erle_bands.proofs.Begun.{sums-begun, lows-begun}
 use Rattle.subband_erle_estimator.specs.declared.settings.SubbandSettings.{SubbandSettings}
 use Rattle.subband_erle_estimator.specs.declared.channel.SubbandChannel.{SubbandChannel}
 use Rattle.subband_erle_estimator.specs.Channel.{sums_at, streams_at, onset_at, channel_from, compensated_shown, Block, unconverged_block, max_at, streams_learnt_at, onset_learnt_at, all_points, points_with, points_after, sums_after, is_sixth, streams_after, onset_after, channel_after}
@@ -77,17 +77,6 @@ module _ (x y e : List Float) (c : SubbandChannel) where
         hold_counters = bands-stay (pos 0) c.hold_counters l.hold i;
       }
 
-  -- where they begin again, so as if the held sums were 0
-  sums-begun : (t : Bool) (held powers : List Float) → sums_with false (cond t (tab 65 (λ k. zero32)) held) powers ≡ sums_with t held powers
-  unfolding sums_with sum_with
-  sums-begun true held powers = tab-same 65 nan _ _ (λ k h. rw (get_or-tab 65 (λ j. zero32) k nan h) refl)
-  sums-begun false held powers = refl
-
-  lows-begun : (t : Bool) (held : List Bool) → lows_with false (cond t (tab 65 (λ k. false)) held) x ≡ lows_with t held x
-  unfolding lows_with low_with
-  lows-begun true held = tab-same 65 false _ _ (λ k h. rw (get_or-tab 65 (λ j. false) k false h) refl)
-  lows-begun false held = refl
-
   abbrev with_sums : List Float → List Float → List Bool → ℕ → SubbandChannel → SubbandChannel
   with_sums y2 e2 low points r =
       record {
@@ -115,7 +104,7 @@ module _ (x y e : List Float) (c : SubbandChannel) where
       record {
         capture = sums-begun true c.y2 y;
         residual = sums-begun true c.e2 e;
-        low = lows-begun true c.low_render_energy;
+        low = lows-begun true c.low_render_energy x;
         others = λ y2 e2 low points. refl;
       }
   begun-is false = record { capture = refl; residual = refl; low = refl; others = λ y2 e2 low points. refl }
@@ -180,10 +169,10 @@ by-ratio true false r f old = refl
 by-ratio false has r f old = refl
 
 -- by ratios of the record's own sums
-module _ (s : SubbandSettings) (c : SubbandChannel) (l : Long c) {news : List (Option Float)} (n : news ≡ ratios_of c.y2 c.e2) where
+module _ (s : SubbandSettings) (c : SubbandChannel) (l : Long c) {news : List (Option Float)} (n : news ≡ new_ratios_of c.y2 c.e2) where
   -- the new ratio of a band
   new-at : (k : ℕ) → k < 65 → get_or news k None ≡ new_ratio (sums_at c k).capture (sums_at c k).residual
-  unfolding ratios_of
+  unfolding new_ratios_of
   new-at k h =
       ap (λ (z : List (Option Float)). get_or z k None) n ∙ get_or-tab 65 (λ j. new_ratio (get_or c.y2 j nan) (get_or c.e2 j nan)) k None h
 

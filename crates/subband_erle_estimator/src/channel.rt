@@ -7,9 +7,9 @@ ghost use Rattle.subband_erle_estimator.specs.Steps.{sums_cleared, learnt_by};
 use crate::settings::SubbandSettings;
 use aec3_common::spectra::copy_ends;
 use aec3_common::sums_ok;
-use erle_bands::onsets::{decay_compensated, lower_holds, wait_again};
+use erle_bands::onsets::{decay_all, lower_all, wait_all};
 use erle_bands::streams::NewRatios;
-use erle_bands::sums::{add_powers, note_low_energy, ratios};
+use erle_bands::sums::{accumulate, accumulate_low_energy, new_ratios};
 
 pub const POINTS_TO_ACCUMULATE: usize = 6;
 
@@ -139,9 +139,9 @@ impl SubbandChannel {
             if self.num_points == POINTS_TO_ACCUMULATE {
                 self.clear_sums();
             }
-            add_powers(&mut self.y2, y2);
-            add_powers(&mut self.e2, e2);
-            note_low_energy(&mut self.low_render_energy, x2);
+            accumulate(&mut self.y2, y2);
+            accumulate(&mut self.e2, e2);
+            accumulate_low_energy(&mut self.low_render_energy, x2);
             self.num_points = points;
             if points == POINTS_TO_ACCUMULATE {
                 self.learn(settings);
@@ -163,14 +163,14 @@ impl SubbandChannel {
         ensures { self.new ≡ channel_after settings unconverged_block self.old }
     {
         if settings.onset_detection {
-            lower_holds(&mut self.hold_counters);
-            decay_compensated(
+            lower_all(&mut self.hold_counters);
+            decay_all(
                 &mut self.erle_onset_compensated,
                 &self.erle_onsets,
                 &self.hold_counters,
                 settings.limits.min,
             );
-            wait_again(&mut self.coming_onset, &self.hold_counters);
+            wait_all(&mut self.coming_onset, &self.hold_counters);
         }
         copy_ends(&mut self.erle);
         copy_ends(&mut self.erle_onset_compensated);
@@ -192,7 +192,7 @@ impl SubbandChannel {
         ensures { self.new ≡ learnt_by settings self.old }
     {
         let news = NewRatios {
-            ratios: &ratios(&self.y2, &self.e2),
+            ratios: &new_ratios(&self.y2, &self.e2),
             low: &self.low_render_energy,
         };
         let limits = settings.limits;

@@ -22,23 +22,23 @@ pub struct Fed {
     pub stop: Stop,
 }
 
-// A refused record: its line, if that finds room, and the state as it was.
-fn refuse(run: Run, refusal: Refusal, out: &mut [u8]) -> Fed
-    ensures value { told result ≡ answer_of (refused_end (record { state = run.state; used = run.used; out = out.old; at = run.at }) (number refusal)) }
-    ensures out_after { out.new ≡ (refused_end (record { state = run.state; used = run.used; out = out.old; at = run.at }) (number refusal)).walk.out }
+// A refused record: its line, if that finds room, and the state as it was. The run is lent: by
+// value, and taken apart here, it was a copy of the state more and two tables of its size that the compiler clears, in every call of `feed`.
+fn refuse(run: &Run, refusal: Refusal, out: &mut [u8]) -> Fed
+    ensures value { told result ≡ answer_of (refused_end (record { state = run.now.state; used = run.now.used; out = out.old; at = run.now.at }) (number refusal)) }
+    ensures out_after { out.new ≡ (refused_end (record { state = run.now.state; used = run.now.used; out = out.old; at = run.now.at }) (number refusal)).walk.out }
 {
-    let Run { state, used, at } = run;
-    match put_refused(out, at, refusal.into(), one_more(state.records)) {
+    match put_refused(out, run.at, refusal.into(), one_more(run.state.records)) {
         Some(next) => Fed {
-            state,
-            used,
+            state: run.state,
+            used: run.used,
             at: next,
             stop: Stop::Refused(refusal),
         },
         None => Fed {
-            state,
-            used,
-            at,
+            state: run.state,
+            used: run.used,
+            at: run.at,
             stop: Stop::NoRoom,
         },
     }
@@ -49,7 +49,7 @@ fn refuse(run: Run, refusal: Refusal, out: &mut [u8]) -> Fed
 // refusal that finds none is found again in the bytes that are left. A refused record is not done with, and nothing is to be fed behind it. 20 is
 // judged of the state that is handed in, and not again between records. The table and the place are no struct: both are the caller's, who may have
 // written a header before the place, and it would be made for each call only.
-pub fn feed(t: Trace, input: &[u8], ended: bool, out: &mut [u8], at: usize) -> Fed
+pub fn feed(mut t: Trace, input: &[u8], ended: bool, out: &mut [u8], at: usize) -> Fed
     ensures value { told result ≡ feed_answer t input.now ended out.old at }
     ensures out_after { out.new ≡ feed_over t input.now ended out.old at }
     ensures used_bound { result.used ≤ ListN·length input.now }
@@ -63,37 +63,37 @@ pub fn feed(t: Trace, input: &[u8], ended: bool, out: &mut [u8], at: usize) -> F
             stop: Stop::BadState,
         };
     }
-    let mut state = t;
     let mut used = 0;
     let mut at = at;
     // No `for`: a record is looked at before it is taken, and one that is refused, or has to wait for room, stays in the bytes; an iterator would
     // have taken it.
     loop {
-        let run = run_blocks(state, input, used, out, at);
-        let ran = run.state;
+        let run = run_blocks(t, input, used, out, at);
         used = run.used;
         at = run.at;
-        if ran.rows_due > 0 {
+        if run.state.rows_due > 0 {
             return Fed {
-                state: ran,
+                state: run.state,
                 used,
                 at,
                 stop: Stop::NoRoom,
             };
         }
         let rest = &input[used..];
-        if let Err(refusal) = Standing::from(ran.estimator.settings).judge_ahead(rest, ended) {
-            return refuse(run, refusal, out);
+        if let Err(refusal) = Standing::from(run.state.estimator.settings).judge_ahead(
+            rest, ended,
+        ) {
+            return refuse(&run, refusal, out);
         }
         let Some(record) = frame(rest) else {
             return Fed {
-                state: ran,
+                state: run.state,
                 used,
                 at,
                 stop: Stop::NoRecord,
             };
         };
-        state = after_record(ran, record);
+        t = after_record(run.state, record);
         used += LENGTH_SIZE + record.len();
     }
 }

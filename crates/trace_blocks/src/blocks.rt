@@ -72,12 +72,11 @@ fn take_block(
 
 // Writes the rows that are due and takes the blocks that the bytes from a place on begin with, for as long as each is accepted and the rows of
 // the one before find room. The state stands in one variable, and its estimator is changed in place.
-pub fn run_blocks(t: Trace, input: &[u8], used: usize, out: &mut [u8], at: usize) -> Run
-    requires { Ready t.estimator × (t.rows_due ≤ channels_of t.estimator) × (used ≤ length input.now) }
-    ensures { Ran input.now (record { state = t; used = used; out = out.old; at = at }) (record { state = result.state; used = result.used; out = out.new; at = result.at }) }
+pub fn run_blocks(mut state: Trace, input: &[u8], used: usize, out: &mut [u8], at: usize) -> Run
+    requires { Ready state.estimator × (state.rows_due ≤ channels_of state.estimator) × (used ≤ length input.now) }
+    ensures { Ran input.now (record { state = state; used = used; out = out.old; at = at }) (record { state = result.state; used = result.used; out = out.new; at = result.at }) }
 {
-    let mut state = t;
-    let standing = Standing::from(t.estimator.settings);
+    let standing = Standing::from(state.estimator.settings);
     // A trace has one section, so that none of these is looked at.
     let active = [[0; 65]; 4];
     let mut values = [0.0f32; MOST_VALUES];

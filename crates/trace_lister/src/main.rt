@@ -19,7 +19,7 @@ fn list_one<W: Write>(writer: &mut W, trace: &[u8], out: &mut [u8]) {
 }
 
 // Lists each trace. Nothing says that the input ends, so the loop has a number of turns that no run uses up. No closure for script's replaying:
-// that reads a record's kind and fields, which a trace has not, and collects text on the heap, which no program over the traces uses.
+// that reads a record's kind and fields, which a trace has not.
 fn list_all<R: Read, W: Write>(
     reader: &mut R,
     writer: &mut W,
@@ -27,7 +27,7 @@ fn list_all<R: Read, W: Write>(
     out: &mut [u8],
 ) -> Result<(), Malformed> {
     for _ in 0..u64::MAX {
-        let Some(trace) = next_record(reader, buffer)? else {
+        let Some(trace) = next_record(reader, 0, buffer)? else {
             break;
         };
         list_one(writer, trace, out);

@@ -1,5 +1,5 @@
 -- What an update's lists and numbers are, by the numbers of 32 bits that its record begins with.
-use Rattle.std.specs.Prelude.{ℕ, ◌≡◌, ◌+◌, List, min, vec_len}
+use Rattle.std.specs.Prelude.{ℕ, ◌≡◌, ◌+◌, List, length, min}
 use Rattle.script.specs.Lists.{nth_word}
 use Rattle.update_bodies.specs.declared.block.BlockLengths.{BlockLengths}
 use Rattle.update_bodies.specs.declared.block.BlockLists.{BlockLists}
@@ -15,21 +15,21 @@ LengthsRead first bytes lengths =
     × (lengths.y2 ≡ nth_word (first + 2) bytes)
     × (lengths.e2 ≡ nth_word (first + 3) bytes)
 
--- lists of these lengths
+-- lists of these lengths; of a longer list stands what its table has room for, which is one more than any call can ask for: 5 flags, 261 figures
 abbrev pub HaveLengths : BlockLengths → BlockLists → Type 0
 HaveLengths lengths lists =
-    (vec_len lists.converged_filters ≡ lengths.flags)
-    × (vec_len lists.x2 ≡ lengths.x2)
-    × (vec_len lists.y2 ≡ lengths.y2)
-    × (vec_len lists.e2 ≡ lengths.e2)
+    (length lists.converged_filters ≡ min lengths.flags 5)
+    × (length lists.x2 ≡ min lengths.x2 261)
+    × (length lists.y2 ≡ min lengths.y2 261)
+    × (length lists.e2 ≡ min lengths.e2 261)
 
 -- lists whose lengths stand from a number on
 abbrev pub ListsRead : ℕ → List ℕ → BlockLists → Type 0
 ListsRead first bytes lists =
-    (vec_len lists.converged_filters ≡ nth_word first bytes)
-    × (vec_len lists.x2 ≡ nth_word (first + 1) bytes)
-    × (vec_len lists.y2 ≡ nth_word (first + 2) bytes)
-    × (vec_len lists.e2 ≡ nth_word (first + 3) bytes)
+    (length lists.converged_filters ≡ min (nth_word first bytes) 5)
+    × (length lists.x2 ≡ min (nth_word (first + 1) bytes) 261)
+    × (length lists.y2 ≡ min (nth_word (first + 2) bytes) 261)
+    × (length lists.e2 ≡ min (nth_word (first + 3) bytes) 261)
 
 -- the head of an update that reads the ring
 abbrev pub HeadReads : List ℕ → RingHead → Type 0
@@ -41,13 +41,13 @@ HeadReads bytes head =
     × LengthsRead 4 bytes head.lengths
     × (head.spectra ≡ nth_word 8 bytes)
 
--- the lists that such a head says
+-- the lists that such a head says; of the ring's spectra stand 4161 numbers at most
 abbrev pub BodyReads : RingHead → RingBody → Type 0
 BodyReads head body =
-    (vec_len body.response_blocks ≡ min head.channels 16)
+    (length body.response_blocks ≡ min head.channels 16)
     × (body.block.num_capture_channels ≡ head.channels)
     × HaveLengths head.lengths body.block
-    × (vec_len body.spectra ≡ head.spectra)
+    × (length body.spectra ≡ min head.spectra 4161)
 
 -- and an update with both
 abbrev pub RingReads : List ℕ → RingLists → Type 0
@@ -55,7 +55,7 @@ RingReads bytes lists =
     (lists.ring.slots ≡ nth_word 1 bytes)
     × (lists.ring.channels ≡ nth_word 2 bytes)
     × (lists.ring.position ≡ nth_word 3 bytes)
-    × (vec_len lists.body.response_blocks ≡ min (nth_word 0 bytes) 16)
+    × (length lists.body.response_blocks ≡ min (nth_word 0 bytes) 16)
     × (lists.body.block.num_capture_channels ≡ nth_word 0 bytes)
     × ListsRead 4 bytes lists.body.block
-    × (vec_len lists.body.spectra ≡ nth_word 8 bytes)
+    × (length lists.body.spectra ≡ min (nth_word 8 bytes) 4161)

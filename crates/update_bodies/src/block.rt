@@ -1,10 +1,10 @@
 // A block of an estimator's input, as a record holds it.
-ghost use Rattle.std.specs.Prelude.{◌≡◌, vec_items, IfOk};
+ghost use Rattle.std.specs.Prelude.{◌≡◌, OnOk};
 ghost use Rattle.script.specs.Lists.{nth_word, past};
 ghost use Rattle.update_bodies.specs.Updates.{LengthsRead, HaveLengths, ListsRead};
 
 use aec3_common::Block;
-use script::{Fault, Fields, FromFields, Malformed};
+use script::{Fields, Flags, FromFields, Malformed, ReadLists, Spectra, Table};
 
 // How many flags, and render, capture and residual numbers.
 #[derive(Clone, Copy, Debug)]
@@ -16,8 +16,6 @@ pub struct BlockLengths {
 }
 
 impl FromFields for BlockLengths {
-    type Error = Malformed;
-
     ghost reads = { λ bytes lengths rest. LengthsRead 0 bytes lengths × (rest ≡ past 4 bytes) };
 
     fn from_fields(fields: &mut Fields) -> Result<BlockLengths, Malformed> {
@@ -34,41 +32,37 @@ impl FromFields for BlockLengths {
 #[derive(Debug, Drop)]
 pub struct BlockLists {
     num_capture_channels: usize,
-    converged_filters: Vec<bool>,
-    x2: Vec<f32>,
-    y2: Vec<f32>,
-    e2: Vec<f32>,
+    converged_filters: Flags,
+    x2: Spectra,
+    y2: Spectra,
+    e2: Spectra,
 }
 
 impl BlockLists {
     // The lists of these lengths, one behind the other.
     pub fn read(
+        &mut self,
         fields: &mut Fields,
         num_capture_channels: usize,
         lengths: BlockLengths,
-    ) -> Result<BlockLists, Fault>
-        ensures channels { IfOk result (λ lists. lists.num_capture_channels ≡ num_capture_channels) }
-        ensures lengths { IfOk result (HaveLengths lengths) }
+    ) -> Result<(), Malformed>
+        ensures channels { OnOk result (self.new.num_capture_channels ≡ num_capture_channels) }
+        ensures lengths { OnOk result (HaveLengths lengths self.new) }
     {
-        let converged_filters = fields.flags(lengths.flags)?;
-        let x2 = fields.floats(lengths.x2)?;
-        let y2 = fields.floats(lengths.y2)?;
-        let e2 = fields.floats(lengths.e2)?;
-        Ok(BlockLists {
-            num_capture_channels,
-            converged_filters,
-            x2,
-            y2,
-            e2,
-        })
+        self.num_capture_channels = num_capture_channels;
+        fields.flags(lengths.flags, &mut self.converged_filters)?;
+        fields.floats(lengths.x2, &mut self.x2)?;
+        fields.floats(lengths.y2, &mut self.y2)?;
+        fields.floats(lengths.e2, &mut self.e2)?;
+        Ok(())
     }
 
     pub fn block(&self) -> Block<'_>
         ensures channels { result.num_capture_channels ≡ self.now.num_capture_channels }
-        ensures converged_filters { result.converged_filters.now ≡ vec_items self.now.converged_filters }
-        ensures x2 { result.x2.now ≡ vec_items self.now.x2 }
-        ensures y2 { result.y2.now ≡ vec_items self.now.y2 }
-        ensures e2 { result.e2.now ≡ vec_items self.now.e2 }
+        ensures converged_filters { result.converged_filters.now ≡ self.now.converged_filters }
+        ensures x2 { result.x2.now ≡ self.now.x2 }
+        ensures y2 { result.y2.now ≡ self.now.y2 }
+        ensures e2 { result.e2.now ≡ self.now.e2 }
     {
         Block {
             num_capture_channels: self.num_capture_channels,
@@ -81,15 +75,23 @@ impl BlockLists {
 }
 
 // The update of a part of the ERLE estimator, alone: its channels, its lengths, its lists.
-impl FromFields for BlockLists {
-    type Error = Fault;
-
+impl ReadLists for BlockLists {
     ghost reads = { λ bytes lists _. (lists.num_capture_channels ≡ nth_word 0 bytes) × ListsRead 1 bytes lists };
 
-    fn from_fields(fields: &mut Fields) -> Result<BlockLists, Fault> {
+    fn none() -> BlockLists {
+        BlockLists {
+            num_capture_channels: 0,
+            converged_filters: Table::filled_with(false),
+            x2: Table::filled_with(0.0),
+            y2: Table::filled_with(0.0),
+            e2: Table::filled_with(0.0),
+        }
+    }
+
+    fn read_fields(&mut self, fields: &mut Fields) -> Result<(), Malformed> {
         let num_capture_channels = fields.count()?;
         let lengths = BlockLengths::from_fields(fields)?;
-        BlockLists::read(fields, num_capture_channels, lengths)
+        self.read(fields, num_capture_channels, lengths)
     }
 }
 
@@ -104,8 +106,9 @@ mod tests {
             1, 0, 0, 0, 1, 0, 0, 0, 1, 0, 0, 0, 1, 0, 0, 0, 1, 0, 0, 0, 1, 0, 0, 0x80, 0x3f, 0, 0,
             0, 0x40, 0, 0, 0, 0xc0,
         ];
-        let mut fields = Fields::new(rt.alloc(), &bytes);
-        let lists = BlockLists::from_fields(&mut fields)?;
+        let mut fields = Fields::new(&bytes);
+        let mut lists = BlockLists::none();
+        lists.read_fields(&mut fields)?;
         assert_eq!(rt; fields.end(), Ok(()));
         let block = lists.block();
         assert_eq!(rt; block.num_capture_channels, 1);

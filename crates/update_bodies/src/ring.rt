@@ -1,17 +1,17 @@
 // The update of an estimator that reads the ring: the call's block, the ring, and the responses of the filters. The
 // signal-dependent estimator alone is lent two averages besides; the whole estimator makes its own.
-ghost use Rattle.std.specs.Prelude.{◌≡◌, [], vec_len, vec_items, IfOk};
+ghost use Rattle.std.specs.Prelude.{◌≡◌, [], length, min, OnOk};
 ghost use Rattle.script.specs.Lists.{nth_word, past};
 ghost use Rattle.update_bodies.specs.Updates.{HeadReads, BodyReads, RingReads};
 
 use crate::block::{BlockLengths, BlockLists};
 use aec3_common::Block;
-use script::{Fault, Fields, FromFields, Malformed};
+use script::{BlockFloats, Fields, FromFields, Malformed, ReadLists, Spectra, Table};
 use section_echoes::{FilterResponses, RenderBuffer, RenderRing};
 
 // A call has a count of response blocks for each of its channels, but a record holds no more than these: one with more
 // channels is turned away for them.
-const MOST_COUNTS: u32 = 16;
+const MOST_COUNTS: usize = 16;
 
 // The channels of the call, the ring, and the lengths of the lists that every such update has.
 #[derive(Clone, Copy, Debug)]
@@ -23,8 +23,6 @@ struct RingHead {
 }
 
 impl FromFields for RingHead {
-    type Error = Malformed;
-
     ghost reads = { λ bytes head rest. HeadReads bytes head × (rest ≡ past 9 bytes) };
 
     fn from_fields(fields: &mut Fields) -> Result<RingHead, Malformed> {
@@ -44,23 +42,28 @@ impl FromFields for RingHead {
 // The lists that every such update has behind its head.
 #[derive(Debug, Drop)]
 struct RingBody {
-    response_blocks: Vec<usize>,
+    response_blocks: Table<usize, MOST_COUNTS>,
     block: BlockLists,
-    spectra: Vec<f32>,
+    spectra: BlockFloats,
 }
 
 impl RingBody {
-    fn read(fields: &mut Fields, head: RingHead) -> Result<RingBody, Fault>
-        ensures { IfOk result (BodyReads head) }
+    fn none() -> RingBody {
+        RingBody {
+            response_blocks: Table::filled_with(0),
+            block: BlockLists::none(),
+            spectra: Table::filled_with(0.0),
+        }
+    }
+
+    fn read(&mut self, fields: &mut Fields, head: RingHead) -> Result<(), Malformed>
+        ensures { OnOk result (BodyReads head self.new) }
     {
-        let response_blocks = fields.counts(head.channels.min(MOST_COUNTS))?;
-        let block = BlockLists::read(fields, head.channels as usize, head.lengths)?;
-        let spectra = fields.floats(head.spectra)?;
-        Ok(RingBody {
-            response_blocks,
-            block,
-            spectra,
-        })
+        let counts = head.channels.min(MOST_COUNTS as u32);
+        fields.counts(counts, &mut self.response_blocks)?;
+        self.block
+            .read(fields, head.channels as usize, head.lengths)?;
+        fields.floats(head.spectra, &mut self.spectra)
     }
 }
 
@@ -69,23 +72,23 @@ impl RingBody {
 pub struct RingLists {
     ring: RenderRing,
     body: RingBody,
-    responses: Vec<f32>,
+    responses: BlockFloats,
 }
 
 impl RingLists {
     pub fn block(&self) -> Block<'_>
         ensures channels { result.num_capture_channels ≡ self.now.body.block.num_capture_channels }
-        ensures converged_filters { result.converged_filters.now ≡ vec_items self.now.body.block.converged_filters }
-        ensures x2 { result.x2.now ≡ vec_items self.now.body.block.x2 }
-        ensures y2 { result.y2.now ≡ vec_items self.now.body.block.y2 }
-        ensures e2 { result.e2.now ≡ vec_items self.now.body.block.e2 }
+        ensures converged_filters { result.converged_filters.now ≡ self.now.body.block.converged_filters }
+        ensures x2 { result.x2.now ≡ self.now.body.block.x2 }
+        ensures y2 { result.y2.now ≡ self.now.body.block.y2 }
+        ensures e2 { result.e2.now ≡ self.now.body.block.e2 }
     {
         self.body.block.block()
     }
 
     pub fn render(&self) -> RenderBuffer<'_>
         ensures ring { result.ring ≡ self.now.ring }
-        ensures spectra { result.spectra.now ≡ vec_items self.now.body.spectra }
+        ensures spectra { result.spectra.now ≡ self.now.body.spectra }
     {
         RenderBuffer {
             ring: self.ring,
@@ -94,8 +97,8 @@ impl RingLists {
     }
 
     pub fn responses(&self) -> FilterResponses<'_>
-        ensures blocks { result.blocks.now ≡ vec_items self.now.body.response_blocks }
-        ensures responses { result.responses.now ≡ vec_items self.now.responses }
+        ensures blocks { result.blocks.now ≡ self.now.body.response_blocks }
+        ensures responses { result.responses.now ≡ self.now.responses }
     {
         FilterResponses {
             blocks: self.body.response_blocks.as_slice(),
@@ -105,20 +108,26 @@ impl RingLists {
 }
 
 // The responses take what the other lists leave.
-impl FromFields for RingLists {
-    type Error = Fault;
-
+impl ReadLists for RingLists {
     ghost reads = { λ bytes lists rest. RingReads bytes lists × (rest ≡ []) };
 
-    fn from_fields(fields: &mut Fields) -> Result<RingLists, Fault> {
+    fn none() -> RingLists {
+        RingLists {
+            ring: RenderRing {
+                slots: 0,
+                channels: 0,
+                position: 0,
+            },
+            body: RingBody::none(),
+            responses: Table::filled_with(0.0),
+        }
+    }
+
+    fn read_fields(&mut self, fields: &mut Fields) -> Result<(), Malformed> {
         let head = RingHead::from_fields(fields)?;
-        let body = RingBody::read(fields, head)?;
-        let responses = fields.floats_left()?;
-        Ok(RingLists {
-            ring: head.ring,
-            body,
-            responses,
-        })
+        self.ring = head.ring;
+        self.body.read(fields, head)?;
+        fields.floats_left(&mut self.responses)
     }
 }
 
@@ -126,47 +135,45 @@ impl FromFields for RingLists {
 #[derive(Debug, Drop)]
 pub struct AveragedLists {
     pub lists: RingLists,
-    average: Vec<f32>,
-    average_compensated: Vec<f32>,
+    average: Spectra,
+    average_compensated: Spectra,
 }
 
 impl AveragedLists {
     pub fn average(&self) -> &[f32]
-        ensures { result.now ≡ vec_items self.now.average }
+        ensures { result.now ≡ self.now.average }
     {
         self.average.as_slice()
     }
 
     pub fn average_compensated(&self) -> &[f32]
-        ensures { result.now ≡ vec_items self.now.average_compensated }
+        ensures { result.now ≡ self.now.average_compensated }
     {
         self.average_compensated.as_slice()
     }
 }
 
 // The lengths of the averages stand behind the head, and the averages before the responses.
-impl FromFields for AveragedLists {
-    type Error = Fault;
+impl ReadLists for AveragedLists {
+    ghost reads = { λ bytes averaged rest. RingReads bytes averaged.lists × (length averaged.average ≡ min (nth_word 9 bytes) 261) × (length averaged.average_compensated ≡ min (nth_word 10 bytes) 261) × (rest ≡ []) };
 
-    ghost reads = { λ bytes averaged rest. RingReads bytes averaged.lists × (vec_len averaged.average ≡ nth_word 9 bytes) × (vec_len averaged.average_compensated ≡ nth_word 10 bytes) × (rest ≡ []) };
+    fn none() -> AveragedLists {
+        AveragedLists {
+            lists: RingLists::none(),
+            average: Table::filled_with(0.0),
+            average_compensated: Table::filled_with(0.0),
+        }
+    }
 
-    fn from_fields(fields: &mut Fields) -> Result<AveragedLists, Fault> {
+    fn read_fields(&mut self, fields: &mut Fields) -> Result<(), Malformed> {
         let head = RingHead::from_fields(fields)?;
         let plain = fields.word()?;
         let compensated = fields.word()?;
-        let body = RingBody::read(fields, head)?;
-        let average = fields.floats(plain)?;
-        let average_compensated = fields.floats(compensated)?;
-        let responses = fields.floats_left()?;
-        Ok(AveragedLists {
-            lists: RingLists {
-                ring: head.ring,
-                body,
-                responses,
-            },
-            average,
-            average_compensated,
-        })
+        self.lists.ring = head.ring;
+        self.lists.body.read(fields, head)?;
+        fields.floats(plain, &mut self.average)?;
+        fields.floats(compensated, &mut self.average_compensated)?;
+        fields.floats_left(&mut self.lists.responses)
     }
 }
 
@@ -183,7 +190,8 @@ mod tests {
             1, 0, 0, 0, 2, 0, 0, 0, 1, 0, 0, 0, 1, 0, 0, 0, 0, 0, 0, 0, 0, 0, 0, 0, 0, 0, 0, 0, 0,
             0, 0, 0, 1, 0, 0, 0, 3, 0, 0, 0, 0, 0, 0x80, 0x3f, 0, 0, 0, 0xc0,
         ];
-        let lists = RingLists::from_fields(&mut Fields::new(rt.alloc(), &bytes))?;
+        let mut lists = RingLists::none();
+        lists.read_fields(&mut Fields::new(&bytes))?;
         let render = lists.render();
         assert_eq!(rt;
             (
@@ -208,7 +216,8 @@ mod tests {
             0, 0, 0, 0, 0, 0, 0, 1, 0, 0, 0, 1, 0, 0, 0, 3, 0, 0, 0, 0, 0, 0x80, 0x3f, 0, 0, 0,
             0x40, 0, 0, 0, 0xc0,
         ];
-        let averaged = AveragedLists::from_fields(&mut Fields::new(rt.alloc(), &bytes))?;
+        let mut averaged = AveragedLists::none();
+        averaged.read_fields(&mut Fields::new(&bytes))?;
         assert_eq!(rt; averaged.average(), [1.0].as_slice());
         assert_eq!(rt; averaged.average_compensated(), [2.0].as_slice());
         assert_eq!(rt; averaged.lists.responses().responses, [-2.0].as_slice());

@@ -1,11 +1,17 @@
-use Rattle.std.proofs.Common.{rules, false, get_or}
-use Rattle.std.specs.Float.{nan}
-use Rattle.aec3_common.proofs.Changes.{changed-all}
-use Rattle.erle_bands.specs.Band.{sum_with}
+use Rattle.std.proofs.Common.{List, true, false, ap, ◌∙◌}
+use lib.Ieee.{Float}
+use Rattle.aec3_common.specs.Lists.{tab}
 use Rattle.erle_bands.specs.Steps.{sums_with}
+use Rattle.erle_bands.proofs.Begun.{sums-begun}
 use Rattle.erle_bands.proofs.sums.add_powers.Goals as goal
+use Rattle.erle_bands.proofs.sums.add_powers.Goals.{then-anew, else-anew}
 
 pub returns : goal.returns
-unfolding sums_with sum_with
+unfolding tab
 returns c =
-    changed-all nan (λ k sum. sum_with false sum (get_or c.args.powers.now k nan)) c.change.ensures (search rules) (λ k x y h r. search rules)
+    let with = λ (sums : List Float). sums_with false sums c.args.powers.now in
+    c.accumulate.ensures
+    ∙ elim c.if-anew.branch [
+      | then-anew w ↦ rw w.if-anew.true (ap with w.sums-is ∙ sums-begun true c.args.sums.now c.args.powers.now)
+      | else-anew w ↦ rw w.if-anew.false (ap with w.sums-is)
+    ]

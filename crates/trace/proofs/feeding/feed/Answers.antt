@@ -66,20 +66,20 @@ fine c = rw c.from.ensures at c.in_default.ensures
 
 -- ---- no room for a row
 
-pub returns-then-ran-gt0-clause-value : goal.returns-then-ran-gt0-clause-value
+pub returns-then-run-gt0-clause-value : goal.returns-then-run-gt0-clause-value
 unfolding feed_answer
-returns-then-ran-gt0-clause-value c =
-    let ran = (goal.at.returns-then-ran-gt0-clause-value c).After-run_blocks-run in
-    ap answer_of (sym (ends_so (passes ran) (underway ran) (fed-full _ _ _ c.if-ran-gt0.true (c.run_blocks-run.ensures.full c.if-ran-gt0.true))))
+returns-then-run-gt0-clause-value c =
+    let ran = (goal.at.returns-then-run-gt0-clause-value c).After-run_blocks-run in
+    ap answer_of (sym (ends_so (passes ran) (underway ran) (fed-full _ _ _ c.if-run-gt0.true (c.run_blocks-run.ensures.full c.if-run-gt0.true))))
 
-pub returns-then-ran-gt0-clause-out_after : goal.returns-then-ran-gt0-clause-out_after
+pub returns-then-run-gt0-clause-out_after : goal.returns-then-run-gt0-clause-out_after
 unfolding feed_over
-returns-then-ran-gt0-clause-out_after c =
-    let ran = (goal.at.returns-then-ran-gt0-clause-out_after c).After-run_blocks-run in
-    ap (λ (e : Stopped). e.walk.out) (sym (ends_so (passes ran) (underway ran) (fed-full _ _ _ c.if-ran-gt0.true (c.run_blocks-run.ensures.full c.if-ran-gt0.true))))
+returns-then-run-gt0-clause-out_after c =
+    let ran = (goal.at.returns-then-run-gt0-clause-out_after c).After-run_blocks-run in
+    ap (λ (e : Stopped). e.walk.out) (sym (ends_so (passes ran) (underway ran) (fed-full _ _ _ c.if-run-gt0.true (c.run_blocks-run.ensures.full c.if-run-gt0.true))))
 
-pub returns-then-ran-gt0-clause-gives_listing : goal.returns-then-ran-gt0-clause-gives_listing
-returns-then-ran-gt0-clause-gives_listing c = gives-listing _ _ _ _ _
+pub returns-then-run-gt0-clause-gives_listing : goal.returns-then-run-gt0-clause-gives_listing
+returns-then-run-gt0-clause-gives_listing c = gives-listing _ _ _ _ _
 
 -- ---- a refused record
 
@@ -88,14 +88,14 @@ unfolding feed_answer
 returns-in-Err-clause-value c =
     let ran = (goal.at.returns-in-Err-clause-value c).After-run_blocks-run in
     let told = (goal.at.returns-in-Err-clause-value c).In-Err in
-    c.refuse.ensures.value ∙ ap answer_of (sym (ends-refused (passes ran) (underway ran) c.if-ran-gt0.false (number-is told) (refused-some told.in-Err.refusal)))
+    c.refuse.ensures.value ∙ ap answer_of (sym (ends-refused (passes ran) (underway ran) c.if-run-gt0.false (number-is told) (refused-some told.in-Err.refusal)))
 
 pub returns-in-Err-clause-out_after : goal.returns-in-Err-clause-out_after
 unfolding feed_over
 returns-in-Err-clause-out_after c =
     let ran = (goal.at.returns-in-Err-clause-out_after c).After-run_blocks-run in
     let told = (goal.at.returns-in-Err-clause-out_after c).In-Err in
-    c.refuse.ensures.out_after ∙ ap (λ (e : Stopped). e.walk.out) (sym (ends-refused (passes ran) (underway ran) c.if-ran-gt0.false (number-is told) (refused-some told.in-Err.refusal)))
+    c.refuse.ensures.out_after ∙ ap (λ (e : Stopped). e.walk.out) (sym (ends-refused (passes ran) (underway ran) c.if-run-gt0.false (number-is told) (refused-some told.in-Err.refusal)))
 
 pub returns-in-Err-clause-used_bound : goal.returns-in-Err-clause-used_bound
 returns-in-Err-clause-used_bound c =
@@ -112,35 +112,35 @@ unfolding feed_answer
 returns-in_default-frame-clause-value c =
     let ran = (goal.at.returns-in_default-frame-clause-value c).After-run_blocks-run in
     let asked = (goal.at.returns-in_default-frame-clause-value c).In_default in
-    ap answer_of (sym (ends-cut (passes ran) (underway ran) c.if-ran-gt0.false (fine asked) c.in_default-frame.ensures))
+    ap answer_of (sym (ends-cut (passes ran) (underway ran) c.if-run-gt0.false (fine asked) c.in_default-frame.ensures))
 
 pub returns-in_default-frame-clause-out_after : goal.returns-in_default-frame-clause-out_after
 unfolding feed_over
 returns-in_default-frame-clause-out_after c =
     let ran = (goal.at.returns-in_default-frame-clause-out_after c).After-run_blocks-run in
     let asked = (goal.at.returns-in_default-frame-clause-out_after c).In_default in
-    ap (λ (e : Stopped). e.walk.out) (sym (ends-cut (passes ran) (underway ran) c.if-ran-gt0.false (fine asked) c.in_default-frame.ensures))
+    ap (λ (e : Stopped). e.walk.out) (sym (ends-cut (passes ran) (underway ran) c.if-run-gt0.false (fine asked) c.in_default-frame.ensures))
 
 pub returns-in_default-frame-clause-gives_listing : goal.returns-in_default-frame-clause-gives_listing
 returns-in_default-frame-clause-gives_listing c = gives-listing _ _ _ _ _
 
 -- ---- a record of another kind
 
-pub after_record-state-requires : goal.after_record-state-requires
-after_record-state-requires c =
-    let ran = (goal.at.after_record-state-requires c).After-run_blocks-run in
-    let asked = (goal.at.after_record-state-requires c).In_default in
-    no-block-lent (passes ran) (underway ran) c.if-ran-gt0.false (fine asked) c.in-Some.ensures (c.run_blocks-run.ensures.no_block (omega arith))
+pub after_record-t-requires : goal.after_record-t-requires
+after_record-t-requires c =
+    let ran = (goal.at.after_record-t-requires c).After-run_blocks-run in
+    let asked = (goal.at.after_record-t-requires c).In_default in
+    no-block-lent (passes ran) (underway ran) c.if-run-gt0.false (fine asked) c.in-Some.ensures (c.run_blocks-run.ensures.no_block (omega arith))
 
 pub loop-run-preserved : goal.loop-run-preserved
 loop-run-preserved c =
     let ran = (goal.at.loop-run-preserved c).After-run_blocks-run in
     let asked = (goal.at.loop-run-preserved c).In_default in
-    underway-next (passes ran) (underway ran) c.if-ran-gt0.false (fine asked) c.in-Some.ensures (c.run_blocks-run.ensures.no_block (omega arith)) c.after_record-state.ensures
+    underway-next (passes ran) (underway ran) c.if-run-gt0.false (fine asked) c.in-Some.ensures (c.run_blocks-run.ensures.no_block (omega arith)) c.after_record-t.ensures
 
 pub loop-run-smaller : goal.loop-run-smaller
 loop-run-smaller c =
     let ran = (goal.at.loop-run-smaller c).After-run_blocks-run in
     let asked = (goal.at.loop-run-smaller c).In_default in
-    let ends = ends-within (passes ran) (underway ran) c.if-ran-gt0.false (fine asked) c.in-Some.ensures (c.run_blocks-run.ensures.no_block (omega arith)) in
+    let ends = ends-within (passes ran) (underway ran) c.if-run-gt0.false (fine asked) c.in-Some.ensures (c.run_blocks-run.ensures.no_block (omega arith)) in
     omega (arith, ends, c.run_blocks-run.ensures.onward)

@@ -11,20 +11,20 @@ use Rattle.trace.proofs.feeding.refuse.Goals as goal
 pub returns-in-Some-clause-value : goal.returns-in-Some-clause-value
 unfolding refused_end
 returns-in-Some-clause-value c =
-    let item = refused_at c.args.run.state (number c.args.refusal) in
+    let item = refused_at c.args.run.now.state (number c.args.refusal) in
     let place = rw (c.one_more.ensures, c.into.ensures) at c.in-Some.ensures.value in
     let text = rw (c.one_more.ensures, c.into.ensures) at c.in-Some.ensures.out_after in
     let w = wrote _ _ (line item) _ _ place text in
-    rw (w.place, le-leb (c.args.run.at + length (line item)) (length c.args.out.now) w.room) refl
+    rw (w.place, le-leb (c.args.run.now.at + length (line item)) (length c.args.out.now) w.room) refl
 
 pub returns-in-Some-clause-out_after : goal.returns-in-Some-clause-out_after
 unfolding refused_end
 returns-in-Some-clause-out_after c =
-    let item = refused_at c.args.run.state (number c.args.refusal) in
+    let item = refused_at c.args.run.now.state (number c.args.refusal) in
     let place = rw (c.one_more.ensures, c.into.ensures) at c.in-Some.ensures.value in
     let text = rw (c.one_more.ensures, c.into.ensures) at c.in-Some.ensures.out_after in
     let w = wrote _ _ (line item) _ _ place text in
-    rw (le-leb (c.args.run.at + length (line item)) (length c.args.out.now) w.room) w.text
+    rw (le-leb (c.args.run.now.at + length (line item)) (length c.args.out.now) w.room) w.text
 
 pub returns-in-None-clause-value : goal.returns-in-None-clause-value
 unfolding refused_end

@@ -25,7 +25,7 @@ returns-in_default c =
 
 -- where feeding began, and where it stands once the rows that are due are written
 abbrev begun : In-Some → Walk
-begun c = record { state = c.args.t; used = c.args.used; out = c.args.out.now; at = c.args.at }
+begun c = record { state = c.args.state; used = c.args.used; out = c.args.out.now; at = c.args.at }
 
 abbrev now : In-Some → Walk
 now c =

@@ -1,8 +1,10 @@
-use Rattle.std.proofs.Common.{◌∙◌, rules, eqb}
-use Rattle.std.proofs.lemmas.Iterator.{YieldsList-from_map_by, YieldsList-from_slice}
-use Rattle.std.proofs.lemmas.Iterator.Consumers.{YieldsList-at}
-use Rattle.script.proofs.Flags.{flag_in, flag_of_item, flags_from_try_collect}
+use Rattle.std.proofs.Common.{◌∙◌, ap, take, length, min, get_or, eqb, refl, rules}
+use Rattle.script.specs.Lists.{flags_in}
+use Rattle.script.proofs.Tables.{values_by_place}
 use Rattle.script.proofs.fields.Fields.flags.Goals as goal
 
 pub returns-clause-values : goal.returns-clause-values
-returns-clause-values c = flags_from_try_collect c.try_collect.result c.try_collect.ensures.ran (YieldsList-from_map_by _ flag_in (λ byte. eqb byte 1) (YieldsList-at c.map.ensures.source (YieldsList-from_slice _ (c.iter.ensures.rest ∙ c.in_ok-bytes.ensures.value))) c.map.ensures.closure (λ x r q k. search (rules, flag_of_item r (eqb x.now 1))))
+returns-clause-values g c =
+    c.fill.ensures.values (λ k. eqb (get_or c.in_ok-bytes.bytes.now k 0) 1) (λ k t p. search rules)
+    ∙ values_by_place (λ byte. eqb byte 1) g.row.N c.in_ok-bytes.bytes.now (min (length c.in_ok-bytes.bytes.now) g.row.N) refl
+    ∙ ap (λ s. take g.row.N (flags_in s)) c.in_ok-bytes.ensures.value

@@ -12,7 +12,7 @@ returns c =
     let long : Long r = search rules in
     let held : c.if-settings.self ≡ held_by s r =
     elim c.if-settings.branch [
-      | then-settings w ↦ w.self-is ∙ held-on s r w.if-settings.true w.lower_holds.ensures w.decay_compensated.ensures w.wait_again.ensures
+      | then-settings w ↦ w.self-is ∙ held-on s r w.if-settings.true w.lower_all.ensures w.decay_all.ensures w.wait_all.ensures
       | else-settings w ↦ w.self-is ∙ held-off s r w.if-settings.false long
     ] in
     shown-is s r c.if-settings.self long held c.copy_ends.ensures c.copy_ends-2.ensures c.copy_ends-3.ensures ∙ after-unconverged s r

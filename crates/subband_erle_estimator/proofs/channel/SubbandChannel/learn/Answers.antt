@@ -7,7 +7,7 @@ use Rattle.subband_erle_estimator.proofs.channel.SubbandChannel.learn.Goals as g
 pub returns-then-settings : goal.returns-then-settings
 returns-then-settings c =
     let long : Long c.args.self.now = search rules in
-    learnt-on c.args.settings c.args.self.now long c.ratios.ensures
+    learnt-on c.args.settings c.args.self.now long c.new_ratios.ensures
     c.move_stream.ensures
     (c.move_stream-2.ensures ∙ simp c.uncapped_limits.ensures)
     c.move_stream-then-settings.ensures
@@ -16,7 +16,7 @@ returns-then-settings c =
 pub returns-else-settings : goal.returns-else-settings
 returns-else-settings c =
     let long : Long c.args.self.now = search rules in
-    learnt-off c.args.settings c.args.self.now long c.ratios.ensures
+    learnt-off c.args.settings c.args.self.now long c.new_ratios.ensures
     c.move_stream.ensures
     (c.move_stream-2.ensures ∙ simp c.uncapped_limits.ensures)
     c.if-settings.false

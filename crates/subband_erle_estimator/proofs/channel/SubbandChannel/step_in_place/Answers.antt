@@ -24,7 +24,7 @@ returns c =
                 rw (eq-eqb _ _ v.if-self-eq-POINTS_TO_ACCUMULATE.true) (v.self-is ∙ v.clear_sums.ensures)
             | else-self-eq-POINTS_TO_ACCUMULATE v ↦ rw (ne_eqb _ _ v.if-self-eq-POINTS_TO_ACCUMULATE.false) v.self-is
           ] in
-          let heard = heard-is x y e r w.if-self-eq-POINTS_TO_ACCUMULATE.self long begun w.add_powers.ensures w.add_powers-then-converged.ensures w.note_low_energy.ensures w.points_with-points.ensures in
+          let heard = heard-is x y e r w.if-self-eq-POINTS_TO_ACCUMULATE.self long begun w.accumulate.ensures w.accumulate-then-converged.ensures w.accumulate_low_energy.ensures w.points_with-points.ensures in
           rw w.if-converged.true
           (ap (channel_after s unconverged_block)
           (w.self-is ∙ w.learn.ensures ∙ converged-six x y e r s _ heard (eq-eqb _ _ w.if-points-eq-POINTS_TO_ACCUMULATE.true))
@@ -36,7 +36,7 @@ returns c =
                 rw (eq-eqb _ _ v.if-self-eq-POINTS_TO_ACCUMULATE.true) (v.self-is ∙ v.clear_sums.ensures)
             | else-self-eq-POINTS_TO_ACCUMULATE v ↦ rw (ne_eqb _ _ v.if-self-eq-POINTS_TO_ACCUMULATE.false) v.self-is
           ] in
-          let heard = heard-is x y e r w.if-self-eq-POINTS_TO_ACCUMULATE.self long begun w.add_powers.ensures w.add_powers-then-converged.ensures w.note_low_energy.ensures w.points_with-points.ensures in
+          let heard = heard-is x y e r w.if-self-eq-POINTS_TO_ACCUMULATE.self long begun w.accumulate.ensures w.accumulate-then-converged.ensures w.accumulate_low_energy.ensures w.points_with-points.ensures in
           rw w.if-converged.true
           (ap (channel_after s unconverged_block)
           (w.self-is ∙ converged-few x y e r s _ heard (ne_eqb _ _ w.if-points-eq-POINTS_TO_ACCUMULATE.false))
