@@ -9,10 +9,13 @@ use crate::fields::Fields;
 use aec3_common::{ErleLimits, FilterLayout};
 
 pub trait FromFields: Sized {
+    // What may go wrong: a value that asks for memory while it is read can say that too, as a `Fault`.
+    type Error;
+
     // What of these bytes the value is, and which bytes are left behind it.
     ghost reads: { List ℕ → Self → List ℕ → Type 0 };
 
-    fn from_fields(fields: &mut Fields) -> Result<Self, Malformed>
+    fn from_fields(fields: &mut Fields) -> Result<Self, Self::Error>
         ensures { IfOk result (λ value. reads fields.old.rest.now value fields.new.rest.now) };
 }
 
@@ -29,6 +32,8 @@ pub trait ReadLists: Sized {
 
 // Of nothing there are no fields.
 impl FromFields for () {
+    type Error = Malformed;
+
     ghost reads = { λ bytes _ rest. rest ≡ bytes };
 
     fn from_fields(_fields: &mut Fields) -> Result<(), Malformed> {
@@ -37,6 +42,8 @@ impl FromFields for () {
 }
 
 impl FromFields for bool {
+    type Error = Malformed;
+
     ghost reads = { λ bytes flag rest. (nth_word 0 bytes < 2) × (IsTrue flag ↔ (nth_word 0 bytes ≡ 1)) × (rest ≡ past 1 bytes) };
 
     fn from_fields(fields: &mut Fields) -> Result<bool, Malformed> {
@@ -45,6 +52,8 @@ impl FromFields for bool {
 }
 
 impl FromFields for ErleLimits {
+    type Error = Malformed;
+
     ghost reads = { λ bytes limits rest. (limits.min ≡ of_bits binary32 (nth_word 0 bytes)) × (limits.max_l ≡ of_bits binary32 (nth_word 1 bytes)) × (limits.max_h ≡ of_bits binary32 (nth_word 2 bytes)) × (rest ≡ past 3 bytes) };
 
     fn from_fields(fields: &mut Fields) -> Result<ErleLimits, Malformed> {
@@ -57,6 +66,8 @@ impl FromFields for ErleLimits {
 }
 
 impl FromFields for FilterLayout {
+    type Error = Malformed;
+
     ghost reads = { λ bytes layout rest. (12 ≤ length bytes) × (layout.num_sections ≡ nth_word 0 bytes) × (layout.filter_length_blocks ≡ nth_word 1 bytes) × (layout.delay_headroom_samples ≡ nth_word 2 bytes) × (rest ≡ past 3 bytes) };
 
     fn from_fields(fields: &mut Fields) -> Result<FilterLayout, Malformed> {
@@ -65,5 +76,34 @@ impl FromFields for FilterLayout {
             filter_length_blocks: fields.count()?,
             delay_headroom_samples: fields.count()?,
         })
+    }
+}
+
+#[cfg(test)]
+mod tests {
+    use super::*;
+    use crate::fault::Fault;
+    use std::test::Fail;
+
+    // A number with the error of a value that asks for memory.
+    #[derive(Clone, Copy, Debug, PartialEq, Eq)]
+    struct Word(u32);
+
+    impl FromFields for Word {
+        type Error = Fault;
+
+        ghost reads = { λ bytes word rest. (word.0 ≡ nth_word 0 bytes) × (rest ≡ past 1 bytes) };
+
+        fn from_fields(fields: &mut Fields) -> Result<Word, Fault> {
+            Ok(Word(fields.word()?))
+        }
+    }
+
+    #[test]
+    fn reads_a_value_with_an_error_of_its_own(rt: HostRuntime) -> Result<(), Fail> {
+        let mut fields = Fields::new(&[7, 0, 0, 0, 1]);
+        assert_eq!(rt; Word::from_fields(&mut fields), Ok(Word(7)));
+        assert_eq!(rt; Word::from_fields(&mut fields), Err(Fault::Malformed));
+        Ok(())
     }
 }

@@ -16,7 +16,7 @@ pub mod table;
 pub mod text;
 
 pub use call::{Call, Reply};
-pub use fault::Malformed;
+pub use fault::{Fault, Malformed};
 pub use fields::Fields;
 pub use from_fields::{FromFields, ReadLists};
 pub use input::{next_record, read_full};

@@ -21,7 +21,7 @@ pub trait Replayed: Copy + fmt::Display {
 
     type Update: ReadLists + Drop;
 
-    type Change: FromFields + Copy;
+    type Change: FromFields<Error = Malformed> + Copy;
 
     // The word that begins the line of a call.
     const NAME: &'static str;

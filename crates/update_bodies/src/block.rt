@@ -16,6 +16,8 @@ pub struct BlockLengths {
 }
 
 impl FromFields for BlockLengths {
+    type Error = Malformed;
+
     ghost reads = { λ bytes lengths rest. LengthsRead 0 bytes lengths × (rest ≡ past 4 bytes) };
 
     fn from_fields(fields: &mut Fields) -> Result<BlockLengths, Malformed> {

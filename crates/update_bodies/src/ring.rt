@@ -23,6 +23,8 @@ struct RingHead {
 }
 
 impl FromFields for RingHead {
+    type Error = Malformed;
+
     ghost reads = { λ bytes head rest. HeadReads bytes head × (rest ≡ past 9 bytes) };
 
     fn from_fields(fields: &mut Fields) -> Result<RingHead, Malformed> {
