@@ -6,13 +6,13 @@ ghost use Rattle.update_bodies.specs.Updates.{LengthsRead, HaveLengths, ListsRea
 use aec3_common::Block;
 use script::{Fields, Flags, FromFields, Malformed, ReadLists, Spectra, Table};
 
-// How many flags, and render, capture and residual numbers.
+// How many flags, and render, capture and residual numbers. Who wants lists that are longer than the tables of `BlockLists` reads them by these.
 #[derive(Clone, Copy, Debug)]
 pub struct BlockLengths {
-    flags: u32,
-    x2: u32,
-    y2: u32,
-    e2: u32,
+    pub flags: u32,
+    pub x2: u32,
+    pub y2: u32,
+    pub e2: u32,
 }
 
 impl FromFields for BlockLengths {
