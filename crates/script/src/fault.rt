@@ -8,8 +8,7 @@ use std::alloc::AllocError;
 #[derive(Clone, Copy, Debug, PartialEq, Eq)]
 pub struct Malformed;
 
-// The same, or no memory where some was asked for. No function of this crate asks for any: it is what another crate's value may answer that is
-// read from a record's fields.
+// The same, or no memory where some was asked for: an error for other crates, since no function of this one asks for any.
 #[derive(Clone, Copy, Debug, PartialEq, Eq)]
 pub enum Fault {
     Malformed,

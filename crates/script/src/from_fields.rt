@@ -9,7 +9,7 @@ use crate::fields::Fields;
 use aec3_common::{ErleLimits, FilterLayout};
 
 pub trait FromFields: Sized {
-    // What may go wrong: a value that asks for memory while it is read can say that too, as a `Fault`.
+    // What may go wrong. Of this project no value says more than `Malformed`; one of another crate may have an error of its own, such as `Fault`.
     type Error;
 
     // What of these bytes the value is, and which bytes are left behind it.
@@ -85,7 +85,7 @@ mod tests {
     use crate::fault::Fault;
     use std::test::Fail;
 
-    // A number with the error of a value that asks for memory.
+    // A number with another error than `Malformed`.
     #[derive(Clone, Copy, Debug, PartialEq, Eq)]
     struct Word(u32);
 

@@ -120,4 +120,18 @@ mod tests {
         assert_eq!(rt; block.e2, [-2.0].as_slice());
         Ok(())
     }
+
+    // No flag, 262 render numbers, and no others: one render number more than a table of the lists takes.
+    #[test]
+    fn reads_a_list_longer_than_its_table(rt: HostRuntime) -> Result<(), Fail> {
+        let mut bytes = [0, 0, 0, 0, 6, 1, 0, 0, 0, 0, 0, 0, 0, 0, 0, 0].to_vec(rt.alloc())?;
+        bytes.resize(1064, 0)?;
+        let mut fields = Fields::new(&bytes);
+        let lengths = BlockLengths::from_fields(&mut fields)?;
+        let mut x2: Table<f32, 262> = Table::filled_with(1.0);
+        fields.floats(lengths.x2, &mut x2)?;
+        assert_eq!(rt; fields.end(), Ok(()));
+        assert_eq!(rt; x2.as_slice().len(), 262);
+        Ok(())
+    }
 }
